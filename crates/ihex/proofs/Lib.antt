@@ -1,0 +1,5 @@
+pub mod Cuts
+pub mod Steps
+pub mod Walked
+pub mod Chunked
+pub mod Reaching
