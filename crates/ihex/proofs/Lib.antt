@@ -3,3 +3,4 @@ pub mod Steps
 pub mod Walked
 pub mod Chunked
 pub mod Reaching
+pub mod Below

@@ -6,6 +6,7 @@ ghost use Rattle.ihex.specs.Reads.{accepted};
 mod methods;
 
 // A checked patch: it holds the maker's text, and exists only for a text that passed every rule.
+#[derive(Drop)]
 pub struct Patch<'t> {
     text: &'t [u8],
     ghost ok: { accepted (text .now) ≡ true },

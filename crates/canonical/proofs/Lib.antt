@@ -1,0 +1,5 @@
+pub mod Spelled
+pub mod OneLine
+pub mod Split
+pub mod ReadBack
+pub mod Example

@@ -1,0 +1,1 @@
+// Texts in canonical form: see specs/.

@@ -1,0 +1,3 @@
+pub mod Ended
+pub mod Cases
+pub mod Laws

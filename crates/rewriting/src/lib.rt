@@ -1,0 +1,1 @@
+// What may change in a patch's text while every byte that it names stays.
