@@ -60,7 +60,7 @@ CaseFacts chars (start-is d ln p) = typeOn chars ≡ 5
 
 module _ (ln p : ℕ) (chars : List ℕ) where
   -- the digits that the count asks for
-  data-length : lacksDigits chars ≡ false → length (dataDigits chars) / 2 ≡ countOn chars
+  pub data-length : lacksDigits chars ≡ false → length (dataDigits chars) / 2 ≡ countOn chars
   data-length h =
       let e : length chars - 1 ≡ 10 + 2 * countOn chars = eqb-true (length chars - 1) (10 + 2 * countOn chars) (not-false (eqb (length chars - 1) (10 + 2 * countOn chars)) (or-parts (ltb (length chars - 1) 2) (not (eqb (length chars - 1) (10 + 2 * countOn chars))) h .1)) in
       omega (arith, length-take (2 * countOn chars) (drop 9 chars), length-drop 9 chars, e)

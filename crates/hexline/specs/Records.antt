@@ -63,4 +63,4 @@ fixedCount t = cond (eqb t 1) 0 (cond (eqb t 4) 2 4)
 
 -- 16: a line of type 01, 04 or 05 must have its own count, and the address 0
 abbrev pub misshapen : List ℕ → Bool
-misshapen chars = not (eqb (typeOn chars) 0) && not (eqb (countOn chars) (fixedCount (typeOn chars)) && eqb (addressOn chars) 0)
+misshapen chars = (eqb (typeOn chars) 1 || (eqb (typeOn chars) 4 || eqb (typeOn chars) 5)) && not (eqb (countOn chars) (fixedCount (typeOn chars)) && eqb (addressOn chars) 0)

@@ -1,0 +1,1 @@
+// Which bytes a text names, and what its frames write. See specs/.

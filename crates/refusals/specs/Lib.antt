@@ -1,0 +1,2 @@
+pub mod Bad
+pub mod Exact
