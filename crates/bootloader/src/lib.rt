@@ -16,6 +16,3 @@ pub use status::Reply;
 pub use status::ReplyDebug;
 pub use status::ReplyPartialEq;
 pub use status::read_reply;
-
-#[cfg(test)]
-mod tests;

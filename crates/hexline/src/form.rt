@@ -14,6 +14,9 @@ use super::digits::digit;
 use super::digits::sum_of_pairs;
 use super::fault::TextFault;
 
+// What the bytes of a line add up to, modulo 256.
+const WHOLE_SUM: u8 = 0;
+
 // The byte number `k` of the line, from its count on; 0 where it has none.
 pub fn byte_on(chars: &[u8], k: u8) -> u8
     ensures { λ r. ⌜ r ≡ getD (bytesOn (now (chars .entry))) k 0 ⌝ }
@@ -70,7 +73,7 @@ pub fn check_form(chars: &[u8], line: usize, place: u32) -> Result<(), TextFault
     if digits.len() < 2 || digits.len() != 10 + 2 * byte_on(chars, 0) as usize {
         return Err(TextFault::WrongLength { line, place: at });
     }
-    if sum_of_pairs(digits) != 0 {
+    if sum_of_pairs(digits) != WHOLE_SUM {
         return Err(TextFault::WrongSum { line, place: at });
     }
     Ok(())

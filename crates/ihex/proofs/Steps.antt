@@ -30,6 +30,15 @@ pub or-false : (b : Bool) → (b || false) ≡ b
 or-false true = refl
 or-false false = refl
 
+-- what the check for an end line says of what was seen
+pub ended-from : (b : Bool) (f g : TextFault) → _≡_ {A = Result (Unit {0}) TextFault} (cond b (Err f) (Ok tt)) (Err g) → (b ≡ true) × (f ≡ g)
+ended-from true f g e = (refl, cc)
+ended-from false f g e = let z : _≡_ {A = ℕ} 0 1 = cc in absurd (omega arith)
+
+pub going-from : (b : Bool) (f : TextFault) (v : Unit {0}) → _≡_ {A = Result (Unit {0}) TextFault} (cond b (Err f) (Ok tt)) (Ok v) → b ≡ false
+going-from true f v e = let z : _≡_ {A = ℕ} 0 1 = cc in absurd (omega arith)
+going-from false f v e = refl
+
 module _ (s : Seen) (ln p : ℕ) (chars : List ℕ) where
   abbrev answer : Result Seen TextFault
   answer = decided (rulesBeside s (lineAt ln p chars)) (seenNext s (lineAt ln p chars))

@@ -1,11 +1,13 @@
 // A whole text.
 ghost use mathlib.Core.Path.{_≡_};
-ghost use mathlib.Core.Bool.{true, false, _||_};
+ghost use mathlib.Core.Bool.{true, false, cond, _||_};
 ghost use mathlib.Core.List.{[]};
 ghost use Prim.Native.Nat.{_+_, _≤_};
 ghost use lib.Dec.{ltb};
 ghost use lib.ListN.{length};
 ghost use Rattle.std.specs.Vec.{made};
+ghost use Rattle.std.specs.declared.result.Result.the-variants.{Ok, Err};
+ghost use Rattle.hexline.specs.declared.fault.TextFault.the-variants.{AfterEnd};
 ghost use Rattle.hexline.specs.Faults.{decided};
 ghost use Rattle.ihex.specs.Texts.{linesOf};
 ghost use Rattle.ihex.specs.Reads.{seenNext, nothingSeen, dataRules, rulesBeside, linesKept, textOf, readText};
@@ -16,6 +18,9 @@ use hexline::Line;
 use hexline::RowGuard;
 use hexline::TextFault;
 use hexline::sort_line;
+
+// The longest text.
+const LONGEST_TEXT: usize = 131072;
 
 // What the lines so far have said.
 #[derive(Clone, Copy)]
@@ -58,9 +63,9 @@ fn step_data(seen: Seen, start: u16, count: u8, line: usize, place: u32) -> Resu
     })
 }
 
-// One line more.
-fn step(seen: Seen, chars: &[u8], line: usize, place: u32) -> Result<Seen, TextFault>
-    ensures { λ r. ⌜ r ≡ decided (rulesBeside seen (record { number = line; place = place; chars = now (chars .entry) })) (seenNext seen (record { number = line; place = place; chars = now (chars .entry) })) ⌝ }
+// No line may stand after the end line.
+fn check_open(seen: Seen, line: usize, place: u32) -> Result<(), TextFault>
+    ensures { λ r. ⌜ r ≡ cond (seen .ended) (Err (AfterEnd line place)) (Ok tt) ⌝ }
 {
     if seen.ended {
         return Err(TextFault::AfterEnd {
@@ -68,6 +73,14 @@ fn step(seen: Seen, chars: &[u8], line: usize, place: u32) -> Result<Seen, TextF
             place: place as usize,
         });
     }
+    Ok(())
+}
+
+// One line more.
+fn step(seen: Seen, chars: &[u8], line: usize, place: u32) -> Result<Seen, TextFault>
+    ensures { λ r. ⌜ r ≡ decided (rulesBeside seen (record { number = line; place = place; chars = now (chars .entry) })) (seenNext seen (record { number = line; place = place; chars = now (chars .entry) })) ⌝ }
+{
+    check_open(seen, line, place)?;
     match sort_line(chars, line, place)? {
         Line::Data {
             address,
@@ -121,7 +134,7 @@ fn read_lines(text: &[u8]) -> Result<Seen, TextFault>
 fn check_rules(text: &[u8]) -> Result<(), TextFault>
     ensures { λ r. ⌜ r ≡ textOf (now (text .entry)) ⌝ }
 {
-    if text.len() > 131072 {
+    if text.len() > LONGEST_TEXT {
         return Err(TextFault::TooLong);
     }
     let seen = read_lines(text)?;

@@ -8,14 +8,11 @@ use Rattle.std.proofs.shelf.Lists.{append-nil, append-assoc}
 use Rattle.std.specs.declared.option.Option.{Option}
 use Rattle.std.specs.declared.option.Option.the-variants.{Some, None}
 use Rattle.std.specs.shelf.Lists.{joined}
+use Rattle.checksum.proofs.Joins.{joined-append}
 use Rattle.ihex.specs.Frames.{FrameIs}
 use Rattle.bootloader.specs.Commands.{CommandIs, addr-ram, write-ram, download-init, ram-remap-reset}
 use Rattle.listings.specs.Listed.{standsAt, addressed, writes, commandsOf}
 use Rattle.listings.specs.Outputs.{commandString}
-
-pub joined-append : {X A : Type 0} (f : X → List A) (xs ys : List X) → joined f (xs ++ ys) ≡ joined f xs ++ joined f ys
-joined-append f [] ys = refl
-joined-append f (x ∷ xs) ys = ap (λ l. f x ++ l) (joined-append f xs ys) ∙ sym (append-assoc (f x) (joined f xs) (joined f ys))
 
 module _ (pointer : Option ℕ) (start : ℕ) (out : List ℕ) where
   pub address-known : standsAt pointer start ≡ true → out ≡ out ++ joined commandString (addressed pointer start)

@@ -23,6 +23,7 @@ use super::fault::ProgramFromAlloc;
 use super::fault::ProgramFromFrame;
 use super::fault::ProgramFromText;
 use bootloader::Command;
+use card::read_card;
 use ihex::DataFrame;
 use ihex::Patch;
 use ihex::TextFault;
@@ -118,7 +119,7 @@ pub fn list(heap: Global, text: &[u8]) -> Result<Vec<u8>, ProgramFault>
     }
     let mut row = [0u8; 255];
     let mut patch = Patch::example();
-    patch.read(text, &mut row)?;
+    read_card(&mut patch, text, &mut row)?;
     if patch.reaches(WINDOW) {
         return Err(ProgramFault::PastWindow);
     }

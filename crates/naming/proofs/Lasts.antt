@@ -11,11 +11,11 @@ use Rattle.std.proofs.shelf.Tests.{le-leb, lt-leb, lt-ltb, le-ltb, and-from, an
 use Rattle.std.specs.declared.option.Option.{Option}
 use Rattle.std.specs.declared.option.Option.the-variants.{Some, None}
 use Rattle.std.specs.shelf.Lists.{All, folded}
+use Rattle.checksum.proofs.Joins.{folded-append}
 use Rattle.hexline.specs.Digits.{pairValue}
 use Rattle.hexline.proofs.Pairs.{getD-pairs, length-pairs}
 use Rattle.ihex.specs.Named.{DataIs, bytesIn, dataLines, byteAt, held, namedNext, named}
 use Rattle.naming.specs.Bytes.{Names, Holds, ByLast}
-use Rattle.refusals.proofs.Lasts.{folded-append}
 
 some-same : (b c : ℕ) → _≡_ {A = Option ℕ} (Some b) (Some c) → b ≡ c
 some-same b c e = cc

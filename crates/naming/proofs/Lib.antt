@@ -1,3 +1,4 @@
 pub mod Writes
 pub mod Lasts
 pub mod Once
+pub mod Reached

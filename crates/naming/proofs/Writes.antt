@@ -12,15 +12,11 @@ use Rattle.std.proofs.shelf.Tests.{eq-eqb, ne-eqb, le-leb, lt-leb, lt-ltb, le-l
 use Rattle.std.specs.declared.option.Option.{Option}
 use Rattle.std.specs.declared.option.Option.the-variants.{Some, None}
 use Rattle.std.specs.shelf.Lists.{folded, joined}
+use Rattle.checksum.proofs.Joins.{joined-append, folded-append}
 use Rattle.ihex.specs.Named.{DataIs, bytesIn, dataLines, byteAt, held, namedNext, named}
 use Rattle.ihex.specs.Frames.{Chunk, FrameIs, chunks, chunksOf, lineChunks, numbered, framesOf}
 use Rattle.ihex.proofs.Chunked.{chunks-none, chunks-first}
 use Rattle.naming.specs.Bytes.{Write, writesFrom, lineWrites, frameWrites, putNext, lastPut, FramesWrite}
-use Rattle.refusals.proofs.Lasts.{folded-append}
-
-joined-append : {X A : Type 0} (f : X → List A) (xs ys : List X) → joined f (xs ++ ys) ≡ joined f xs ++ joined f ys
-joined-append f [] ys = refl
-joined-append f (x ∷ xs) ys = ap (λ l. f x ++ l) (joined-append f xs ys) ∙ sym (append-assoc (f x) (joined f xs) (joined f ys))
 
 writes-append : (start : ℕ) (xs ys : List ℕ) → writesFrom start (xs ++ ys) ≡ writesFrom start xs ++ writesFrom (start + length xs) ys
 unfolding writesFrom

@@ -1,6 +1,6 @@
 -- The byte that a text names at an address, and the bytes that its frames write. Assumes nothing.
 use mathlib.Core.Path.{_≡_}
-use mathlib.Core.Bool.{true, cond}
+use mathlib.Core.Bool.{true, false, cond}
 use mathlib.Core.List.{List, [], _∷_, _++_}
 use Prim.Native.Nat.{ℕ, _+_, _*_, _/_, _<_, _≤_}
 use lib.Dec.{eqb}
@@ -10,7 +10,7 @@ use Rattle.std.specs.declared.option.Option.the-variants.{Some, None}
 use Rattle.std.specs.shelf.Lists.{All, folded, joined}
 use Rattle.hexline.specs.Digits.{pairValue}
 use Rattle.ihex.specs.Reads.{accepted}
-use Rattle.ihex.specs.Named.{DataIs, bytesIn, dataLines, named}
+use Rattle.ihex.specs.Named.{DataIs, bytesIn, dataLines, named, reaches}
 use Rattle.ihex.specs.Frames.{FrameIs, framesOf}
 
 -- a line names an address: it lies from the line's address on, below the end of its digit pairs
@@ -39,6 +39,11 @@ pub record ByLast (text : List ℕ) : Type 0 where
 -- of an accepted text, no two lines name one address
 abbrev pub AtMostOnce : List ℕ → Type 0
 AtMostOnce text = accepted text ≡ true → (before middle after : List DataIs) (d e : DataIs) → dataLines text ≡ before ++ (d ∷ (middle ++ (e ∷ after))) → (a : ℕ) → Names d a → Names e a → ⊥
+
+-- a text reaches a window's end exactly if it names a byte there or above
+pub record ReachesSo (text : List ℕ) : Type 0 where
+  pub some : (w : ℕ) → reaches w text ≡ true → (a : ℕ) × (b : ℕ) × (w ≤ a) × (named text a ≡ Some b)
+  pub none : (w : ℕ) → reaches w text ≡ false → (a : ℕ) → w ≤ a → named text a ≡ None
 
 -- a byte put at an address
 pub record Write : Type 0 where

@@ -7,15 +7,12 @@ use Prim.Native.Nat.{ℕ}
 use lib.Dec.{eqb}
 use Rattle.std.proofs.shelf.Tests.{true≢false, eqb-true, eqb-false, eq-eqb, ne-eqb, or-parts, cond-true, cond-false}
 use Rattle.std.specs.shelf.Lists.{folded}
+use Rattle.checksum.proofs.Joins.{folded-append}
 use Rattle.hexline.specs.Records.{typeOn}
 use Rattle.ihex.specs.declared.reads.Seen.{Seen}
 use Rattle.ihex.specs.Texts.{TextLine}
 use Rattle.ihex.specs.Reads.{upperNext, endNext, namesNext, endsNext, seenNext}
 use Rattle.refusals.specs.Bad.{NoneOf, LastOf, LastSays}
-
-pub folded-append : {A B : Type 0} (f : B → A → B) (b : B) (xs ys : List A) → folded f b (xs ++ ys) ≡ folded f (folded f b xs) ys
-folded-append f b [] ys = refl
-folded-append f b (x ∷ xs) ys = folded-append f (f b x) xs ys
 
 module _ (t : ℕ) (says : List ℕ → ℕ) where
   abbrev pub next : ℕ → TextLine → ℕ

@@ -12,13 +12,13 @@ use Rattle.std.proofs.shelf.Tests.{true≢false, and-parts, and-from, and-cases
 use Rattle.std.specs.declared.option.Option.{Option}
 use Rattle.std.specs.declared.option.Option.the-variants.{Some, None}
 use Rattle.std.specs.shelf.Lists.{All, folded, joined}
+use Rattle.checksum.proofs.Joins.{folded-append}
 use Rattle.hexline.specs.Digits.{pairs}
 use Rattle.hexline.specs.Records.{countOn, addressOn, typeOn, dataDigits}
 use Rattle.hexline.proofs.Pairs.{length-pairs, pairs-none}
 use Rattle.ihex.specs.Texts.{TextLine}
 use Rattle.ihex.specs.Reads.{isData, namesNext}
 use Rattle.ihex.specs.Named.{DataIs, bytesIn, dataIn, byteAt, held, namedNext}
-use Rattle.refusals.proofs.Lasts.{folded-append}
 
 abbrev dataOf : TextLine → DataIs
 dataOf l = record { address = addressOn (l .chars); digits = dataDigits (l .chars); line = l .number; place = l .place }

@@ -13,6 +13,7 @@ use Rattle.std.specs.declared.option.Option.{Option}
 use Rattle.std.specs.declared.option.Option.the-variants.{None}
 use Rattle.std.specs.Results.{isOk}
 use Rattle.std.specs.shelf.Lists.{All, folded, joined, leading}
+use Rattle.checksum.proofs.Joins.{joined-append}
 use Rattle.hexline.specs.declared.fault.TextFault.the-variants.{AfterEnd}
 use Rattle.hexline.specs.Digits.{isDigit}
 use Rattle.hexline.specs.Faults.{rule}
@@ -104,12 +105,8 @@ module _ (chars : List ℕ) (is : StartLine chars) (y : List ℕ) (ys : List (Li
   start-unnamed a earlier [] = ap (λ t. folded (bareNext a) (cond (eqb t 0) (held earlier (byteAt (addressOn chars) (dataOn chars) a)) earlier) ys) (start-type chars is)
   start-unnamed a earlier (x ∷ xs) = start-unnamed a (bareNext a earlier x) xs
 
-joined-append : (ls ms : List EndedLine) → joined ended (ls ++ ms) ≡ joined ended ls ++ joined ended ms
-joined-append [] ms = refl
-joined-append (l ∷ ls) ms = ap (λ t. ended l ++ t) (joined-append ls ms) ∙ sym (append-assoc (ended l) (joined ended ls) (joined ended ms))
-
 written-append : (ls ms : List EndedLine) (rest : List ℕ) → written (ls ++ ms) rest ≡ written ls (written ms rest)
-written-append ls ms rest = ap (λ t. t ++ rest) (joined-append ls ms) ∙ append-assoc (joined ended ls) (joined ended ms) rest
+written-append ls ms rest = ap (λ t. t ++ rest) (joined-append ended ls ms) ∙ append-assoc (joined ended ls) (joined ended ms) rest
 
 chars-before : (ls : List EndedLine) (ys : List ℕ) → textChars (written ls ys) ≡ map trimmed (cut-lines ls .0) ++ textChars ys
 chars-before ls ys = ap (map trimmed) (cut-lines ls .1 ys) ∙ map-append trimmed (cut-lines ls .0) (stretches ys)

@@ -43,7 +43,8 @@ impl<'t> DataFrames<'t> {
     pub fn given(&self) -> usize
         ensures { λ r. ⌜ r ≡ now (self .entry) .count ⌝ }
     {
-        self.count
+        let so_far = self.count;
+        so_far
     }
 
     // Goes on to a line that has bytes left; false where there is none.

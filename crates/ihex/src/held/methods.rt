@@ -31,7 +31,8 @@ impl<'t> Patch<'t> {
         ensures value { λ r. ⌜ now r ≡ textIn (now (self .entry)) ⌝ }
         ensures passed { λ r. ⌜ accepted (now r) ≡ true ⌝ }
     {
-        self.text
+        let held = self.text;
+        held
     }
 
     // Holds the new text if it passes every rule; otherwise the patch stays as it was. The row is all zero afterwards.

@@ -6,8 +6,8 @@ use Rattle.hexline.specs.Digits.{pairs}
 use Rattle.hexline.specs.Records.{bytesOn}
 use Rattle.hexline.proofs.form.check_form.Needs as need
 
-pub returns-then-sum-of-pairs-ne0 : need.returns-then-sum-of-pairs-ne0
-returns-then-sum-of-pairs-ne0 c =
+pub returns-then-sum-of-pairs-ne-WHOLE-SUM : need.returns-then-sum-of-pairs-ne-WHOLE-SUM
+returns-then-sum-of-pairs-ne-WHOLE-SUM c =
     let rest = ap (λ d. sum256 (pairs d)) (take-rest (c .args .chars .now) 1) in
     search needs
 

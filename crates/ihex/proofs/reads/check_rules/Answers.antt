@@ -6,9 +6,9 @@ use Rattle.std.specs.declared.result.Result.the-variants.{Err}
 use Rattle.ihex.specs.Reads.{textOf}
 use Rattle.ihex.proofs.reads.check_rules.Needs as need
 
-pub returns-then-text-gt131072 : need.returns-then-text-gt131072
+pub returns-then-text-gt-LONGEST-TEXT : need.returns-then-text-gt-LONGEST-TEXT
 unfolding textOf
-returns-then-text-gt131072 c = search needs
+returns-then-text-gt-LONGEST-TEXT c = search needs
 
 pub returns-in-Break-seen : need.returns-in-Break-seen
 unfolding textOf
