@@ -8,18 +8,15 @@ use lib.ListN.{length}
 use Rattle.std.specs.shelf.Lists.{joined}
 use Rattle.std.specs.declared.result.Result.{Result}
 use Rattle.std.specs.declared.result.Result.the-variants.{Ok}
+use Rattle.checksum.specs.Capitals.{capital}
 use Rattle.bootloader.specs.declared.fault.FrameFault.{FrameFault}
 use Rattle.bootloader.specs.declared.fault.FrameFault.the-variants.{DataTooLong, StringBufferTooShort}
 use Rattle.bootloader.specs.Commands.{CommandIs, payloadOf}
 use Rattle.bootloader.specs.Frames.{must, frameOf}
 
--- a digit of base 16: from '0' on, and from 'A' on for ten and more
-abbrev pub digitOf : ℕ → ℕ
-digitOf value = cond (ltb value 10) (48 + value) (65 + (value - 10))
-
 -- a byte as two digits and a space
 abbrev pub spelled : ℕ → List ℕ
-spelled b = digitOf (b / 16) ∷ digitOf (b % 16) ∷ 32 ∷ []
+spelled b = capital (b / 16) ∷ capital (b % 16) ∷ 32 ∷ []
 
 -- a start, the bytes, 'P' and a line feed
 unfoldable pub strung : List ℕ → List ℕ → List ℕ

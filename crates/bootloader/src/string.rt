@@ -5,10 +5,11 @@ ghost use Prim.Native.Nat.{_+_, _*_, _<_, _≤_};
 ghost use lib.ListN.{length, take, drop};
 ghost use Rattle.std.specs.Vec.{made};
 ghost use Rattle.std.specs.shelf.Lists.{joined};
+ghost use Rattle.checksum.specs.Capitals.{capital};
 ghost use Rattle.checksum.specs.Outcomes.{mapOk};
 ghost use Rattle.bootloader.specs.Commands.{meaning};
 ghost use Rattle.bootloader.specs.Frames.{laidOver};
-ghost use Rattle.bootloader.specs.Strings.{digitOf, spelled, strung, commandString, stringWithin};
+ghost use Rattle.bootloader.specs.Strings.{spelled, strung, commandString, stringWithin};
 use super::command::Command;
 use super::fault::FrameFault;
 
@@ -86,7 +87,7 @@ fn in_digits(b: u8) -> [u8; 3]
 // A digit of base 16, capital from ten on.
 fn digit(value: u8) -> u8
     requires { ⌜ value < 16 ⌝ }
-    ensures { λ r. ⌜ r ≡ digitOf value ⌝ }
+    ensures { λ r. ⌜ r ≡ capital value ⌝ }
 {
     if value < 10 {
         b'0' + value

@@ -3,7 +3,8 @@ use mathlib.Core.Path.{_≡_, refl}
 use mathlib.Core.List.{List, [], _∷_}
 use native.Mathlib.Omega.{arith}
 use lib.Chars.{codes}
-use Rattle.canonical.specs.Canonical.{capital, lineChars, DataSpec, canonicalText, Canonical}
+use Rattle.checksum.specs.Capitals.{capital}
+use Rattle.canonical.specs.Canonical.{lineChars, DataSpec, canonicalText, Canonical}
 
 -- four bytes at the address 0
 abbrev pub oneLine : List DataSpec

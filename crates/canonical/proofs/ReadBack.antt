@@ -23,7 +23,8 @@ use Rattle.ihex.specs.Reads.{longestText, seenNext, nothingSeen, rulesBeside, l
 use Rattle.ihex.specs.Named.{dataIn, dataLines}
 use Rattle.ihex.proofs.Steps.{lineAt, step-data, step-end, step-base, keptFrom, kept-none, kept-more, kept-is}
 use Rattle.ihex.proofs.Walked.{walk-skips, walk-finds}
-use Rattle.canonical.specs.Canonical.{capital, twoDigits, CanonicalLine, lineChars, lineText, DataSpec, dataLine, baseLine, endLine, canonicalLines, canonicalText, endOf, Holds, Ascending, Canonical, dataSpec, ReadsBack}
+use Rattle.checksum.specs.Capitals.{capital}
+use Rattle.canonical.specs.Canonical.{twoDigits, CanonicalLine, lineChars, lineText, DataSpec, dataLine, baseLine, endLine, canonicalLines, canonicalText, endOf, Holds, Ascending, Canonical, dataSpec, ReadsBack}
 use Rattle.canonical.proofs.Spelled.{length-digits}
 use Rattle.canonical.proofs.OneLine.{LineHolds, has-colon, no-stray, whole-digits, sums-right, address-on, type-on, digits-on, data-on}
 use Rattle.canonical.proofs.Split.{placedLines, lines-back}

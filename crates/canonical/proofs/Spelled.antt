@@ -13,7 +13,8 @@ use Rattle.std.specs.Options.{valueOr}
 use Rattle.std.specs.declared.option.Option.the-variants.{Some}
 use Rattle.std.specs.shelf.Lists.{All, joined, leading}
 use Rattle.hexline.specs.Digits.{within, digitOf, isDigit, pairValue, pairs}
-use Rattle.canonical.specs.Canonical.{capital, twoDigits}
+use Rattle.checksum.specs.Capitals.{capital}
+use Rattle.canonical.specs.Canonical.{twoDigits}
 
 in-range : (a b n : ℕ) → a ≤ n → n ≤ b → within a b n ≡ true
 in-range a b n low high = and-from (leb a n) (leb n b) (le-leb a n low) (le-leb n b high)

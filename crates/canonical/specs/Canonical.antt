@@ -7,13 +7,10 @@ use lib.Dec.{ltb}
 use lib.ListN.{length}
 use Rattle.std.specs.declared.result.Result.the-variants.{Ok}
 use Rattle.std.specs.shelf.Lists.{All, joined}
+use Rattle.checksum.specs.Capitals.{capital}
 use Rattle.checksum.specs.Sums.{sum256}
 use Rattle.ihex.specs.Reads.{longestText, textOf}
 use Rattle.ihex.specs.Named.{DataIs, bytesIn, dataLines}
-
--- the digit of a value below 16: from '0' on, and from 'A' on for ten and more
-unfoldable pub capital : ℕ → ℕ
-capital v = cond (ltb v 10) (48 + v) (55 + v)
 
 -- a byte as two digits, the high one first
 abbrev pub twoDigits : ℕ → List ℕ

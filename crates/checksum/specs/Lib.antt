@@ -1,2 +1,3 @@
+pub mod Capitals
 pub mod Outcomes
 pub mod Sums
