@@ -5,6 +5,9 @@ ghost use Prim.Native.Nat.{ℕ, _+_, _-_, _<_, _≤_};
 ghost use lib.ListN.{length, getD, drop};
 ghost use Rattle.ihex.specs.Texts.{stretches, placed};
 
+// What may stand directly before the LF that ends a line.
+const CR: u8 = b'\r';
+
 // A line's characters without its end, and where the next line begins.
 #[derive(Clone, Copy)]
 pub struct Cut<'t> {
@@ -40,7 +43,7 @@ pub fn cut_line(text: &[u8], pos: usize) -> Cut<'_>
             next: end,
         };
     }
-    if pos < end && text[end - 1] == b'\r' {
+    if pos < end && text[end - 1] == CR {
         return Cut {
             chars: &text[pos..end - 1],
             next: end + 1,

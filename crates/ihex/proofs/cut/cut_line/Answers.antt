@@ -17,8 +17,8 @@ returns-then-end-text c =
       lines = line-last text pos end (omega arith) (c .line-end-end .ensures .none) (omega arith) (omega arith);
     }
 
-pub returns-then-text-end-eq13 : need.returns-then-text-end-eq13
-returns-then-text-end-eq13 c =
+pub returns-then-text-end-eq-CR : need.returns-then-text-end-eq-CR
+returns-then-text-end-eq-CR c =
     let text = c .args .text .now in
     let pos = c .args .pos in
     let end = c .line-end-end .result in
