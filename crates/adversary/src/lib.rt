@@ -1,4 +1,6 @@
 // A link over lent RAM whose script picks, at each exchange, any outcome that the sensor's meaning allows.
+#![tactic(auto)]
+
 mod adversary;
 mod choice;
 mod send;

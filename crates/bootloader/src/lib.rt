@@ -1,4 +1,6 @@
 // Commands of the bootloader as frames, its status replies, and frames as I2C strings.
+#![tactic(auto)]
+
 mod command;
 mod fault;
 mod frame;

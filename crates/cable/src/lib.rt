@@ -1,4 +1,6 @@
 // A cable over any link: it passes an exchange on, loses it, or drops its answer.
+#![tactic(auto)]
+
 mod cable;
 mod entry;
 

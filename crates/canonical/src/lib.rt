@@ -1,1 +1,2 @@
 // Texts in canonical form: see specs/.
+#![tactic(auto)]

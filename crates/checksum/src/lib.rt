@@ -1,4 +1,6 @@
 // The sum of bytes modulo 256, which the text's lines and the frames share.
+#![tactic(auto)]
+
 ghost use Rattle.std.specs.Prelude.{◌≡◌};
 ghost use Rattle.checksum.specs.Sums.{sum256};
 

@@ -1,4 +1,6 @@
 // A sensor's state in memory, and what happens in it. The links that play a sensor stand on it.
+#![tactic(auto)]
+
 mod core;
 mod fault;
 mod state;

@@ -1,4 +1,6 @@
 // The worked examples of specs/Worked.antt, proved as one list.
+#![tactic(auto)]
+
 ghost use Rattle.std.specs.Prelude.{◌≡◌, length};
 ghost use Rattle.std.specs.List.{AllByRecursion as All};
 ghost use Rattle.examples.specs.Worked.{Holds, worked};

@@ -1,4 +1,6 @@
 // One line of Intel HEX text: a colon, then digit pairs for count, address, type, data and check byte.
+#![tactic(auto)]
+
 mod digits;
 mod fault;
 mod form;

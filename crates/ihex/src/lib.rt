@@ -1,4 +1,6 @@
 // The maker's patch as Intel HEX text: read it exactly, or refuse it with number, line and place.
+#![tactic(auto)]
+
 mod cut;
 mod frames;
 mod held;

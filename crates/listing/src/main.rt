@@ -1,4 +1,6 @@
 // Reads a text from standard input, and prints what a clean TMF8X0X session would write to register 0x08.
+#![tactic(auto)]
+
 use anyhow::anyhow;
 use listings::{Output, answer};
 use std::io::{Read, Write};

@@ -1,1 +1,2 @@
 // Which bytes a text names, and what its frames write. See specs/.
+#![tactic(auto)]

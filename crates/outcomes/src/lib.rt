@@ -1,4 +1,6 @@
 // What every link keeps, and the smallest link.
+#![tactic(auto)]
+
 mod kept;
 mod nothing;
 

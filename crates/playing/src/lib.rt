@@ -1,4 +1,6 @@
 // Scripts played on a simulated sensor, perhaps over a cable: what the table of vectors asks for.
+#![tactic(auto)]
+
 mod choices;
 mod digits;
 mod fault;

@@ -1,4 +1,6 @@
 // A link over any link that keeps each exchange with its answer.
+#![tactic(auto)]
+
 mod entry;
 mod notes;
 mod recorder;

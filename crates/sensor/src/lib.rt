@@ -1,4 +1,6 @@
 // Kinds of sensor, what an exchange may do to a sensor, and the link to one.
+#![tactic(auto)]
+
 mod enable;
 mod kind;
 mod link;

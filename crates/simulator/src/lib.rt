@@ -1,4 +1,6 @@
 // Two simulated sensors over lent RAM, one of each kind. A lent script says what becomes of each exchange.
+#![tactic(auto)]
+
 mod core;
 mod fate;
 mod tmf882x;

@@ -1,4 +1,6 @@
 // Runs the vectors of a table that is read from standard input, prints each case that fails, and counts.
+#![tactic(auto)]
+
 mod answers;
 mod cases;
 mod fault;
