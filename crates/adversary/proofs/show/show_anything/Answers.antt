@@ -9,6 +9,6 @@ returns c =
     let shown = c.args.shown in
     let four-long : length shown ≡ 4 = search rules in
     let size : n - 0 ≡ n = omega arith in
-    c.copy-from-slice.ensures.after
+    c.copy_from_slice.ensures.after
     ∙ ap (λ (m : ℕ). take m shown) size
     ∙ ap (λ (xs : List ℕ). take n xs) (sym (four_whole shown four-long))

@@ -6,4 +6,4 @@ pub returns : goal.returns
 unfolding decode_of
 returns c =
     let frame = c.args.frame.now in
-    record { value = c.read-frame.ensures; change = change_refused frame (λ k. (c.type-inv.frame k).fits); cut = cut_refused frame }
+    record { value = c.read_frame.ensures; change = change_refused frame (λ k. (c.type_inv.frame k).fits); cut = cut_refused frame }

@@ -8,5 +8,5 @@ returns c =
     let payload = c.args.payload.now in
     record {
       result = omega (arith, length_framed code payload);
-      after = frame_laid code payload c.copy-from-slice.new.self (length payload + 2) c.copy-from-slice.ensures.after refl c.args.buf.now c.csum.result (omega arith) c.csum.ensures;
+      after = frame_laid code payload c.copy_from_slice.new.self (length payload + 2) c.copy_from_slice.ensures.after refl c.args.buf.now c.csum.result (omega arith) c.csum.ensures;
     }

@@ -5,20 +5,20 @@ use Rattle.bootloader.specs.Replies.{shaped, status_of, reply_of}
 use Rattle.bootloader.proofs.Spoiling.{change_spoils}
 use Rattle.bootloader.proofs.status.read_reply.Goals as goal
 
-pub returns-then-is-shaped : goal.returns-then-is-shaped
+pub returns-then-is_shaped : goal.returns-then-is_shaped
 unfolding reply_of
-returns-then-is-shaped c =
+returns-then-is_shaped c =
     let bytes = c.args.bytes.now in
     record {
-      value = c.of-status.ensures ∙ sym (cond-true (shaped bytes) (status_of (get_or bytes 0 0)) Spoiled (sym c.is-shaped.ensures.value ∙ c.if-is-shaped.true));
-      change = change_spoils bytes (λ k. (c.type-inv.bytes k).fits);
+      value = c.of_status.ensures ∙ sym (cond-true (shaped bytes) (status_of (get_or bytes 0 0)) Spoiled (sym c.is_shaped.ensures.value ∙ c.if-is_shaped.true));
+      change = change_spoils bytes (λ k. (c.type_inv.bytes k).fits);
     }
 
-pub returns-else-is-shaped : goal.returns-else-is-shaped
+pub returns-else-is_shaped : goal.returns-else-is_shaped
 unfolding reply_of
-returns-else-is-shaped c =
+returns-else-is_shaped c =
     let bytes = c.args.bytes.now in
     record {
-      value = sym (cond-false (shaped bytes) (status_of (get_or bytes 0 0)) Spoiled (sym c.is-shaped.ensures.value ∙ c.if-is-shaped.false));
-      change = change_spoils bytes (λ k. (c.type-inv.bytes k).fits);
+      value = sym (cond-false (shaped bytes) (status_of (get_or bytes 0 0)) Spoiled (sym c.is_shaped.ensures.value ∙ c.if-is_shaped.false));
+      change = change_spoils bytes (λ k. (c.type_inv.bytes k).fits);
     }

@@ -6,5 +6,5 @@ pub returns : goal.returns
 returns c =
     record {
       result = omega (arith, length_strung c.args.start.now c.args.bytes.now);
-      after = string_laid c.args.start.now c.args.bytes.now c.args.buf.now c.copy-from-slice.new.self c.copy-from-slice.ensures.after c.requires c.spell-end.new.buf c.copy-from-slice-2.new.self c.spell-end.result c.spell-end.ensures.result c.spell-end.ensures.after c.copy-from-slice-2.ensures.after;
+      after = string_laid c.args.start.now c.args.bytes.now c.args.buf.now c.copy_from_slice.new.self c.copy_from_slice.ensures.after c.requires c.spell-end.new.buf c.copy_from_slice-2.new.self c.spell-end.result c.spell-end.ensures.result c.spell-end.ensures.after c.copy_from_slice-2.ensures.after;
     }

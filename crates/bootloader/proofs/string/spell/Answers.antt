@@ -10,9 +10,9 @@ loop-b-init c = (omega arith, spell_none c.args.buf.now c.args.bytes.now c.args.
 
 pub loop-b-preserved : goal.loop-b-preserved
 loop-b-preserved c =
-    let copied = c.copy-from-slice.ensures.after ∙ c.in-digits.ensures in (
+    let copied = c.copy_from_slice.ensures.after ∙ c.in_digits.ensures in (
       omega arith,
-      spell_more c.args.buf.now c.args.bytes.now c.args.from c.requires c.loop-b.buf c.copy-from-slice.new.self c.loop-b.b-index c.loop-b.at c.loop-b.invariant.1 c.loop-b.invariant.0 (omega arith) copied,
+      spell_more c.args.buf.now c.args.bytes.now c.args.from c.requires c.loop-b.buf c.copy_from_slice.new.self c.loop-b.b-index c.loop-b.at c.loop-b.invariant.1 c.loop-b.invariant.0 (omega arith) copied,
     )
 
 pub returns : goal.returns

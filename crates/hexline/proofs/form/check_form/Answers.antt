@@ -5,8 +5,8 @@ use Rattle.hexline.specs.Digits.{pairs}
 use Rattle.hexline.specs.Records.{bytes_on}
 use Rattle.hexline.proofs.form.check_form.Goals as goal
 
-pub returns-then-sum-of-pairs-ne-WHOLE-SUM : goal.returns-then-sum-of-pairs-ne-WHOLE-SUM
-returns-then-sum-of-pairs-ne-WHOLE-SUM c =
+pub returns-then-sum_of_pairs-ne-WHOLE_SUM : goal.returns-then-sum_of_pairs-ne-WHOLE_SUM
+returns-then-sum_of_pairs-ne-WHOLE_SUM c =
     let rest = ap (λ d. sum256 (pairs d)) (take_rest c.args.chars.now 1) in
     search rules
 

@@ -14,10 +14,10 @@ returns-then-rest-count c =
     let chars = c.args.chars.now in
     let rest = take_rest chars 9 in
     let few : length (drop 9 chars) ≡ length (take (length chars - 9) (drop 9 chars)) = ap length (sym rest) in
-    rest ∙ sym (take_all (2 * count_on chars) (drop 9 chars) (omega (arith, few, c.byte-on.ensures)))
+    rest ∙ sym (take_all (2 * count_on chars) (drop 9 chars) (omega (arith, few, c.byte_on.ensures)))
 
 pub returns : goal.returns
 returns c =
     let chars = c.args.chars.now in
-    let n : 2 * c.byte-on.result - 0 ≡ 2 * count_on chars = omega (arith, c.byte-on.ensures) in
+    let n : 2 * c.byte_on.result - 0 ≡ 2 * count_on chars = omega (arith, c.byte_on.ensures) in
     ap (λ k. take k (take (length chars - 9) (drop 9 chars))) n ∙ ap (take (2 * count_on chars)) (take_rest chars 9)

@@ -10,7 +10,7 @@ use Rattle.listings.proofs.lists.push_frames.Goals as goal
 
 pub loop-frame-init : goal.loop-frame-init
 loop-frame-init c =
-    let left = c.data-frames-frames.ensures.left in
+    let left = c.data_frames-frames.ensures.left in
     (subst (All (FrameBelow 16384)) (sym left) (frames_below 16384 (text_in c.args.patch.now) c.requires), ap (λ fs. vec_items c.args.out.now ++ flat_map command_string (writes None fs)) left)
 
 pub loop-frame-preserved : goal.loop-frame-preserved
@@ -21,8 +21,8 @@ loop-frame-preserved c =
     let inv = ap (λ fs. vec_items c.loop-frame.out ++ flat_map command_string (writes c.loop-frame.pointer fs)) (sym came.0) ∙ c.loop-frame.invariant.1 in
     let long : length c.data.result.now ≡ length (said_frame frame).bytes = ap length c.data.ensures in (
       (subst (All (FrameBelow 16384)) came.0 c.loop-frame.invariant.0).1,
-      ap (λ n. vec_items c.push-frame.new.out ++ flat_map command_string (writes (Some (frame.start + n)) rest)) long ∙ frame_laid (vec_items c.loop-frame.out) (vec_items c.push-frame.new.out) _ c.loop-frame.pointer (said_frame frame) rest c.in-ok-push-frame.ensures.pushed inv,
+      ap (λ n. vec_items c.push_frame.new.out ++ flat_map command_string (writes (Some (frame.start + n)) rest)) long ∙ frame_laid (vec_items c.loop-frame.out) (vec_items c.push_frame.new.out) _ c.loop-frame.pointer (said_frame frame) rest c.in_ok-push_frame.ensures.pushed inv,
     )
 
 pub returns : goal.returns
-returns c = record { pushed = frames_laid (vec_items c.loop-frame.out) _ c.loop-frame.pointer (frames_left c.loop-frame.frames) c.in-default.ensures.0 c.loop-frame.invariant.1; stopped = tt }
+returns c = record { pushed = frames_laid (vec_items c.loop-frame.out) _ c.loop-frame.pointer (frames_left c.loop-frame.frames) c.in_default.ensures.0 c.loop-frame.invariant.1; stopped = tt }

@@ -8,7 +8,7 @@ use Rattle.listings.proofs.lists.strings_of.Goals as goal
 
 pub returns : goal.returns
 returns c =
-    all_laid (vec_items c.push-command.new.out) (vec_items c.push-frames.new.out) (vec_items c.push-command-2.new.out) (frames_of (text_in c.args.patch.now))
-    (c.in-ok-push-command.ensures.pushed ∙ ap (λ l. l ++ command_string (meaning c.download-init.result)) c.new-out.ensures.items ∙ ap command_string c.download-init.ensures)
-    c.in-ok-push-frames.ensures.pushed
-    (c.in-ok-push-command-2.ensures.pushed ∙ ap (λ m. vec_items c.push-frames.new.out ++ command_string m) c.ram-remap-reset.ensures)
+    all_laid (vec_items c.push_command.new.out) (vec_items c.push_frames.new.out) (vec_items c.push_command-2.new.out) (frames_of (text_in c.args.patch.now))
+    (c.in_ok-push_command.ensures.pushed ∙ ap (λ l. l ++ command_string (meaning c.download_init.result)) c.new-out.ensures.items ∙ ap command_string c.download_init.ensures)
+    c.in_ok-push_frames.ensures.pushed
+    (c.in_ok-push_command-2.ensures.pushed ∙ ap (λ m. vec_items c.push_frames.new.out ++ command_string m) c.ram_remap_reset.ensures)

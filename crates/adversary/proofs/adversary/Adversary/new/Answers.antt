@@ -13,8 +13,8 @@ pub returns : goal.returns
 returns g c =
     record {
       size = search rules;
-      state = ap (λ (s : Sensor). record { sensor = s; choices = c.args.choices.now; at = 0 }) c.switched-on.ensures.state;
-      lent = c.switched-on.ensures.lent;
+      state = ap (λ (s : Sensor). record { sensor = s; choices = c.args.choices.now; at = 0 }) c.switched_on.ensures.state;
+      lent = c.switched_on.ensures.lent;
       sound = step_lawful g.K.Kind.kind;
       complete = complete g.K.Kind.kind;
     }

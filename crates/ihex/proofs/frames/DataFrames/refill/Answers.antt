@@ -7,14 +7,14 @@ use Rattle.ihex.specs.Walks.{lines_left, frames_left}
 use Rattle.ihex.proofs.Chunked.{line_over, numbered_none}
 use Rattle.ihex.proofs.frames.DataFrames.refill.Goals as goal
 
-pub returns-in-default : goal.returns-in-default
-returns-in-default c =
+pub returns-in_default : goal.returns-in_default
+returns-in_default c =
     let w = c.loop-self.self in
     record {
-      same = ap (λ ls. numbered w.count (chunks_of w.start (pairs w.digits.now) w.line ++ flat_map line_chunks (lines_left ls))) c.in-default.ensures.1 ∙ c.loop-self.invariant.1;
+      same = ap (λ ls. numbered w.count (chunks_of w.start (pairs w.digits.now) w.line ++ flat_map line_chunks (lines_left ls))) c.in_default.ensures.1 ∙ c.loop-self.invariant.1;
       count = c.loop-self.invariant.0;
       more = λ e. absurd (false≢true e);
-      none = λ _. sym c.loop-self.invariant.1 ∙ line_over w.start w.line w.count w.digits.now (lines_left w.lines) (omega arith) ∙ ap (λ ds. numbered w.count (flat_map line_chunks ds)) c.in-default.ensures.0 ∙ numbered_none w.count;
+      none = λ _. sym c.loop-self.invariant.1 ∙ line_over w.start w.line w.count w.digits.now (lines_left w.lines) (omega arith) ∙ ap (λ ds. numbered w.count (flat_map line_chunks ds)) c.in_default.ensures.0 ∙ numbered_none w.count;
     }
 
 pub loop-self-preserved : goal.loop-self-preserved

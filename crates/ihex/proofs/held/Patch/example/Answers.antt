@@ -5,6 +5,6 @@ use Rattle.hexline.specs.Lines.{line_of}
 use Rattle.ihex.specs.Reads.{rules_beside, lines_kept, text_of}
 use Rattle.ihex.proofs.held.Patch.example.Goals as goal
 
-pub invariant-of-result : goal.invariant-of-result
+pub invariant_of-result : goal.invariant_of-result
 unfolding pair_value pairs stretches placed line_of rules_beside lines_kept text_of
-invariant-of-result c = (refl, tt)
+invariant_of-result c = (refl, tt)

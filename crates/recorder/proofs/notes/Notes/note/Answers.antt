@@ -9,13 +9,13 @@ returns-then-len-capacity c =
     let lt : length (vec_items was) < vec_capacity was = omega (arith, was.ok.0, c.if-len-capacity.true) in
     note_kept
     (vec_items was)
-    (vec_items c.push-reserved.new.self)
+    (vec_items c.push_reserved.new.self)
     (vec_capacity was)
-    (vec_capacity c.push-reserved.new.self)
+    (vec_capacity c.push_reserved.new.self)
     c.args.self.now.short
     c.args.entry
-    c.push-reserved.ensures.items
-    c.push-reserved.ensures.capacity
+    c.push_reserved.ensures.items
+    c.push_reserved.ensures.capacity
     lt
 
 pub returns-else-len-capacity : goal.returns-else-len-capacity

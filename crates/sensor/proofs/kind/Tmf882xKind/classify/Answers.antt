@@ -11,5 +11,5 @@ returns-in-1 c = let v = seen_masked c.args.value (omega arith) in search rules
 pub returns-in-65 : goal.returns-in-65
 returns-in-65 c = let v = seen_masked c.args.value (omega arith) in search rules
 
-pub returns-in-default : goal.returns-in-default
-returns-in-default c = let v = seen_masked c.args.value (omega arith) in search rules
+pub returns-in_default : goal.returns-in_default
+returns-in_default c = let v = seen_masked c.args.value (omega arith) in search rules

@@ -8,5 +8,5 @@ returns-in-1 c = let v = ordered_masked c.args.byte (omega arith) in search rule
 pub returns-in-0 : goal.returns-in-0
 returns-in-0 c = let v = ordered_masked c.args.byte (omega arith) in search rules
 
-pub returns-in-default : goal.returns-in-default
-returns-in-default c = let v = ordered_masked c.args.byte (omega arith) in search rules
+pub returns-in_default : goal.returns-in_default
+returns-in_default c = let v = ordered_masked c.args.byte (omega arith) in search rules
