@@ -228,10 +228,10 @@ same_true Strange Ready e = absurd (false≢true e)
 same_true Strange Strange e = refl
 
 least_says : (k : KindIs) (stage : Stage) → seen k (enable_of k (enable_at stage)) ≡ enable_at stage
-least_says k asleep = k.shows-asleep
-least_says k starting = k.shows-starting
-least_says k loader = k.shows-ready
-least_says k application = k.shows-ready
+least_says k asleep = k.shows_asleep
+least_says k starting = k.shows_starting
+least_says k loader = k.shows_ready
+least_says k application = k.shows_ready
 
 enable_lawful : (k : KindIs) (stage : Stage) (value : ℕ) → seen k (enable_shown k (enable_at stage) value) ≡ enable_at stage
 enable_lawful k stage value =

@@ -32,7 +32,7 @@ impl<'a, K: Kind + Drop> Adversary<'a, K> {
     ) -> Result<Adversary<'a, K>, Refused<'a>>
         ensures size { MatchResult result (λ _. ram_checked (length ram.old) K.Kind.kind.window ≡ Ok tt) (λ e. ram_checked (length ram.old) K.Kind.kind.window ≡ Err e.fault) }
         ensures state { MatchResult result (λ a. scripted_in a ≡ first ram.old choices.now) (λ e. e.ram.now ≡ ram.old) }
-        ensures lent { MatchResult result (λ a. a.chip.ram.name ≡ ram.entry.name) (λ e. e.ram.name ≡ ram.entry.name) }
+        ensures lent { MatchResult result (λ a. a.chip.ram.ghost_name ≡ ram.entry.ghost_name) (λ e. e.ram.ghost_name ≡ ram.entry.ghost_name) }
         ensures sound { Sound K.Kind.kind }
         ensures complete { Complete K.Kind.kind }
     {

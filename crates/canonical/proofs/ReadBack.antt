@@ -21,13 +21,13 @@ use Rattle.canonical.proofs.OneLine.{LineHolds, has_colon, no_stray, whole_digit
 use Rattle.canonical.proofs.Split.{placed_lines, lines_back}
 
 base_holds : LineHolds base_line
-base_holds = record { kind_fits = omega arith; address-fits = omega arith; few = omega arith; each = (omega arith, (omega arith, tt)) }
+base_holds = record { kind_fits = omega arith; address_fits = omega arith; few = omega arith; each = (omega arith, (omega arith, tt)) }
 
 end_holds : LineHolds end_line
-end_holds = record { kind_fits = omega arith; address-fits = omega arith; few = omega arith; each = tt }
+end_holds = record { kind_fits = omega arith; address_fits = omega arith; few = omega arith; each = tt }
 
 data_holds : (d : DataSpec) → Holds d → LineHolds (data_line d)
-data_holds d h = record { kind_fits = omega arith; address-fits = h.starts; few = h.few; each = h.each }
+data_holds d h = record { kind_fits = omega arith; address_fits = h.starts; few = h.few; each = h.each }
 
 -- what is said after the base line, up to the end line
 abbrev under : Bool → ℕ → ℕ → ℕ → Seen

@@ -12,8 +12,8 @@ use Rattle.refusals.proofs.Whole.{exact}
 use Rattle.card.specs.Answers.{Answered}
 
 so_from : (text : List ℕ) (r : Result (Unit {0}) TextFault) → text_of text ≡ r → MatchResult r (λ _. Accepted text) (λ f. Refused text f)
-so_from text (Ok v) is = (exact text).accepted-so is
-so_from text (Err f) is = (exact text).refused-so f is
+so_from text (Ok v) is = (exact text).accepted_so is
+so_from text (Err f) is = (exact text).refused_so f is
 
 pub answers : (room : ℕ) (text : List ℕ) (r : Result (Unit {0}) TextFault) → room ≡ 255 → r ≡ read_text room text → Answered text r
 answers room text r whole is =

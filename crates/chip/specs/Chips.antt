@@ -1,5 +1,5 @@
 -- The sensor that a chip stands for. Assumes nothing.
-use Rattle.chip.specs.declared.core.Chip.{Chip}
+use Rattle.chip.specs.declared.lent.Chip.{Chip}
 use Rattle.chip.specs.declared.state.State.{State}
 use Rattle.std.specs.Prelude.{ℕ, List}
 use Rattle.sensor.specs.Sensors.{Sensor}

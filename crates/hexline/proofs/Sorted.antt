@@ -120,8 +120,8 @@ module _ (row chars : List ℕ) (whole : length row ≡ 255) where
       let few = few_digits chars in
       let long = length_pairs digits in
       let short : length digits / 2 ≤ 255 = rw d few in
-      let whole-digits : take n (pairs digits) ≡ pairs digits = take_all n (pairs digits) (omega arith) in
-      let filling-is : filling ≡ pairs digits ++ drop n row = fills ∙ ap (λ bs. bs ++ drop n row) whole-digits in
+      let whole_digits : take n (pairs digits) ≡ pairs digits = take_all n (pairs digits) (omega arith) in
+      let filling-is : filling ≡ pairs digits ++ drop n row = fills ∙ ap (λ bs. bs ++ drop n row) whole_digits in
       let all : length filling ≡ 255 = ap length filling-is ∙ omega (arith, length-append (pairs digits) (drop n row), length-drop n row) in
       let front : take n filling ≡ pairs digits = ap (take n) filling-is ∙ take_at (pairs digits) (drop n row) n (omega arith) in
       let n-is : n ≡ length (pairs digits) = omega arith in

@@ -62,28 +62,28 @@ module _ (k : KindIs) where
   pub all_allowed : (s : Sensor) → Allows k s
   all_allowed s =
       record {
-        carried-out = λ frame command working fits c says can. plain s (writes 0x08 frame) acknowledged (carried_out command working s) fits (frame, (inl refl, counted s frame (carried_out command working s) c (inr (subst (λ (r : Result CommandIs FrameFault). Obeyed k s r (carried_out command working s)) (sym says) (record { working = working; can = can; is = refl })))));
+        is_carried_out = λ frame command working fits c says can. plain s (writes 0x08 frame) acknowledged (carried_out command working s) fits (frame, (inl refl, counted s frame (carried_out command working s) c (inr (subst (λ (r : Result CommandIs FrameFault). Obeyed k s r (carried_out command working s)) (sym says) (record { working = working; can = can; is = refl })))));
         refused = λ frame status working fits c some small. plain s (writes 0x08 frame) acknowledged (answered status working s) fits (frame, (inl refl, counted s frame (answered status working s) c (inl (record { status = status; working = working; some = some; small = small; is = refl }))));
-        not-counted = λ frame fits c. plain s (writes 0x08 frame) acknowledged s fits (frame, (inl refl, passed_over s frame c));
-        arrived-but-missed = λ frame after fits t. plain s (writes 0x08 frame) missed after fits (inr (frame, (inl (inl refl), t)));
+        not_counted = λ frame fits c. plain s (writes 0x08 frame) acknowledged s fits (frame, (inl refl, passed_over s frame c));
+        arrived_but_missed = λ frame after fits t. plain s (writes 0x08 frame) missed after fits (inr (frame, (inl (inl refl), t)));
         changed = λ frame at to after fits o t. plain s (writes 0x08 frame) acknowledged after fits (set frame at to, (one_changed frame at to o, t));
-        changed-and-missed = λ frame at to after fits o t. plain s (writes 0x08 frame) missed after fits (inr (set frame at to, (inl (one_changed frame at to o), t)));
+        changed_and_missed = λ frame at to after fits o t. plain s (writes 0x08 frame) missed after fits (inr (set frame at to, (inl (one_changed frame at to o), t)));
         cut_short = λ frame at after fits inside t. plain s (writes 0x08 frame) missed after fits (inr (_, (inr (record { at = at; inside = inside; is = refl }), t)));
         lost = λ e fits. plain s e missed s fits (nothing s e fits);
-        told-acknowledged = λ register bytes fits other. plain s (writes register bytes) acknowledged _ fits (elsewhere s register bytes acknowledged _ other refl);
-        told-but-missed = λ register bytes fits other. plain s (writes register bytes) missed _ fits (elsewhere s register bytes missed _ other (inr refl));
-        status-shown = λ l. plain s (reads 0x08 3) _ (rested s) refl (at_loader s _ (rested s) l (inr (record { shown = inl refl; is = refl })));
-        status-changed = λ at to l o. plain s (reads 0x08 3) _ (rested s) refl (at_loader s _ (rested s) l (inr (record { shown = one_changed _ at to o; is = refl })));
-        busy-shown = λ number l works some small. plain s (reads 0x08 3) _ s refl (at_loader s _ s l (inl (record { number = number; some = some; small = small; shown = inl refl; works = works; is = refl })));
-        busy-changed = λ number at to l works some small o. plain s (reads 0x08 3) _ s refl (at_loader s _ s l (inl (record { number = number; some = some; small = small; shown = one_changed _ at to o; works = works; is = refl })));
-        enable-shown = λ value says. plain s (reads 0xE0 1) (filled (value ∷ [])) s refl (refl, (refl, says));
-        loader-shown = λ l. plain s (reads 0x00 1) (filled (0x80 ∷ [])) s refl (refl, (refl, subst (λ (g : Stage). AppShown k g (0x80 ∷ [])) (sym l) refl));
-        application-shown = λ a. plain s (reads 0x00 1) (filled (k.app ∷ [])) s refl (refl, (refl, subst (λ (g : Stage). AppShown k g (k.app ∷ [])) (sym a) refl));
-        anything-shown = λ register count got fits other long. plain s (reads register count) (filled got) s fits (long, subst (λ (a : Asked). Shown a k s got s) (sym other) refl);
-        anything-for-status = λ got l long. plain s (reads 0x08 3) (filled got) s refl (long, outside s.stage s got l);
-        work-ended-unseen = λ register count fits. plain s (reads register count) missed (rested s) fits (inr refl);
-        start-ended-unseen = λ register count fits is. happens s (reads register count) missed (started s) fits (record { one = s; two = s; before = inl refl; does = inl refl; later = inr (is, refl) });
-        start-before = λ e answer after fits is d. happens s e answer after fits (record { one = started s; two = after; before = inr (is, refl); does = d; later = inl refl });
-        start-after = λ e answer two fits d is. happens s e answer (started two) fits (record { one = s; two = two; before = inl refl; does = d; later = inr (is, refl) });
-        other-size = λ e odd. off_size_lem s e odd;
+        told_acknowledged = λ register bytes fits other. plain s (writes register bytes) acknowledged _ fits (elsewhere s register bytes acknowledged _ other refl);
+        told_but_missed = λ register bytes fits other. plain s (writes register bytes) missed _ fits (elsewhere s register bytes missed _ other (inr refl));
+        status_shown = λ l. plain s (reads 0x08 3) _ (rested s) refl (at_loader s _ (rested s) l (inr (record { shown = inl refl; is = refl })));
+        status_changed = λ at to l o. plain s (reads 0x08 3) _ (rested s) refl (at_loader s _ (rested s) l (inr (record { shown = one_changed _ at to o; is = refl })));
+        busy_shown = λ number l works some small. plain s (reads 0x08 3) _ s refl (at_loader s _ s l (inl (record { number = number; some = some; small = small; shown = inl refl; works = works; is = refl })));
+        busy_changed = λ number at to l works some small o. plain s (reads 0x08 3) _ s refl (at_loader s _ s l (inl (record { number = number; some = some; small = small; shown = one_changed _ at to o; works = works; is = refl })));
+        enable_shown = λ value says. plain s (reads 0xE0 1) (filled (value ∷ [])) s refl (refl, (refl, says));
+        loader_shown = λ l. plain s (reads 0x00 1) (filled (0x80 ∷ [])) s refl (refl, (refl, subst (λ (g : Stage). AppShown k g (0x80 ∷ [])) (sym l) refl));
+        application_shown = λ a. plain s (reads 0x00 1) (filled (k.app ∷ [])) s refl (refl, (refl, subst (λ (g : Stage). AppShown k g (k.app ∷ [])) (sym a) refl));
+        anything_shown = λ register count got fits other long. plain s (reads register count) (filled got) s fits (long, subst (λ (a : Asked). Shown a k s got s) (sym other) refl);
+        anything_for_status = λ got l long. plain s (reads 0x08 3) (filled got) s refl (long, outside s.stage s got l);
+        work_ended_unseen = λ register count fits. plain s (reads register count) missed (rested s) fits (inr refl);
+        start_ended_unseen = λ register count fits is. happens s (reads register count) missed (started s) fits (record { one = s; two = s; before = inl refl; does = inl refl; later = inr (is, refl) });
+        start_before = λ e answer after fits is d. happens s e answer after fits (record { one = started s; two = after; before = inr (is, refl); does = d; later = inl refl });
+        start_after = λ e answer two fits d is. happens s e answer (started two) fits (record { one = s; two = two; before = inl refl; does = d; later = inr (is, refl) });
+        other_size = λ e odd. off_size_lem s e odd;
       }

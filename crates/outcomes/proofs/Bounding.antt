@@ -105,7 +105,7 @@ module _ (k : KindIs) where
   arrived s one sent got two after before later way t =
       ⊎_elim
       (λ e. inl (start_ram two after later ∙ e ∙ start_ram s one before))
-      (λ w. inr (record { sent = sent; got = got; bytes = w.bytes; one = one; started = before; is-frame = refl; way = way; says = w.says; counted = w.counted; could = w.could; is = start_ram two after later ∙ w.is ∙ ap (λ (l : List ℕ). sets l one.pointer w.bytes) (start_ram s one before) }))
+      (λ w. inr (record { sent = sent; got = got; bytes = w.bytes; one = one; started = before; is_frame = refl; way = way; says = w.says; counted = w.counted; could = w.could; is = start_ram two after later ∙ w.is ∙ ap (λ (l : List ℕ). sets l one.pointer w.bytes) (start_ram s one before) }))
       (judged_ram (counts one) one got two refl t)
 
   frame_kept : (s one : Sensor) (sent : List ℕ) (answer : Answer) (two after : Sensor) → MayStart s one → MayStart two after → FrameSent k one sent answer two → Kept s (writes 0x08 sent) after
@@ -135,10 +135,10 @@ module _ (k : KindIs) where
   pub all_bounded : (s : Sensor) → Bounded k s
   all_bounded s =
       record {
-        other-size = odd_size s;
-        enable-right = λ got after m. right s (λ one. seen k (get_or got 0 0) ≡ enable_at one.stage) after m.one m.two m.before m.does.1.1 m.does.1.0 m.later;
+        other_size = odd_size s;
+        enable_right = λ got after m. right s (λ one. seen k (get_or got 0 0) ≡ enable_at one.stage) after m.one m.two m.before m.does.1.1 m.does.1.0 m.later;
         app_right = λ got after m. right s (λ one. AppShown k one.stage got) after m.one m.two m.before m.does.1.1 m.does.1.0 m.later;
-        ram-kept = λ e answer after m. allowed_ram (sized e) s e answer after m;
+        ram_kept = λ e answer after m. allowed_ram (sized e) s e answer after m;
       }
 
   -- an acknowledged frame is not forgotten

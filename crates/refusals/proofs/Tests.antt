@@ -85,7 +85,7 @@ module _ (chars : List ℕ) where
       let long = length-drop 1 chars in
       let stop : is_digit (get_or chars (1 + n) 0) ≡ false = ap is_digit (sym (shifted n)) ∙ lead_stops is_digit (drop 1 chars) (omega arith) in
       record {
-        past-colon = omega arith;
+        past_colon = omega arith;
         within = lt;
         stray = λ d. true≢false (sym (digit_is (get_or chars (1 + n) 0) d) ∙ stop);
         first = λ j low high. (let back : 1 + (j - 1) ≡ j = omega arith in digit_so (get_or chars j 0) (ap (λ i. is_digit (get_or chars i 0)) (sym back) ∙ ap is_digit (sym (shifted (j - 1))) ∙ lead_passes is_digit (drop 1 chars) (j - 1) (omega arith)));

@@ -1,6 +1,6 @@
 -- The state that the code's structure stands for. Assumes nothing.
 use Rattle.chip.specs.Chips.{sensor_in}
-use Rattle.simulator.specs.declared.core.Core.{Core}
+use Rattle.simulator.specs.declared.scripted.Core.{Core}
 use Rattle.simulator.specs.States.{SimIs}
 
 -- its RAM is what the lent memory holds

@@ -180,10 +180,10 @@ status_length false status count e = length-replicate count 0
 
 -- ENABLE and APPID show what they should
 enable_shown : (k : KindIs) (stage : Stage) → seen k (enable_of k (enable_at stage)) ≡ enable_at stage
-enable_shown k Asleep = k.shows-asleep
-enable_shown k Starting = k.shows-starting
-enable_shown k Loader = k.shows-ready
-enable_shown k Application = k.shows-ready
+enable_shown k Asleep = k.shows_asleep
+enable_shown k Starting = k.shows_starting
+enable_shown k Loader = k.shows_ready
+enable_shown k Application = k.shows_ready
 
 app_is_shown : (k : KindIs) (stage : Stage) → AppShown k stage (app_at k stage 0 ∷ [])
 app_is_shown k Asleep = tt

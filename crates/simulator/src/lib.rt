@@ -1,8 +1,8 @@
 // Two simulated sensors over lent RAM, one of each kind. A lent script says what becomes of each exchange.
 #![tactic(auto)]
 
-mod core;
 mod fate;
+mod scripted;
 mod tmf882x;
 mod tmf8x0x;
 

@@ -8,7 +8,7 @@ ghost use Rattle.simulator.specs.Cores.{sim_in};
 ghost use Rattle.simulator.specs.Simulated.{simulated};
 ghost use Rattle.simulator.specs.Laws.{CleanHeard};
 
-use super::core::Core;
+use super::scripted::Core;
 use chip::{Refused, State, check_ram};
 use sensor::{Kind, Link, Tmf8x0x};
 
@@ -22,7 +22,7 @@ impl<'a> SimulatedTmf8x0x<'a> {
     pub fn new(ram: &'a mut [u8], script: &'a [u8]) -> Result<SimulatedTmf8x0x<'a>, Refused<'a>>
         ensures size { MatchResult result (λ _. ram_checked (length ram.old) «tmf8x0x».window ≡ Ok tt) (λ e. ram_checked (length ram.old) «tmf8x0x».window ≡ Err e.fault) }
         ensures state { MatchResult result (λ s. sim_in s.core ≡ first ram.old script.now) (λ e. e.ram.now ≡ ram.old) }
-        ensures lent { MatchResult result (λ s. s.core.chip.ram.name ≡ ram.entry.name) (λ e. e.ram.name ≡ ram.entry.name) }
+        ensures lent { MatchResult result (λ s. s.core.chip.ram.ghost_name ≡ ram.entry.ghost_name) (λ e. e.ram.ghost_name ≡ ram.entry.ghost_name) }
         ensures clean { CleanHeard «tmf8x0x» }
     {
         if let Err(fault) = check_ram(ram, Tmf8x0x::window_size()) {

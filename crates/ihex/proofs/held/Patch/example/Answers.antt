@@ -7,4 +7,4 @@ use Rattle.ihex.proofs.held.Patch.example.Goals as goal
 
 pub invariant_of-result : goal.invariant_of-result
 unfolding pair_value pairs stretches placed line_of rules_beside lines_kept text_of
-invariant_of-result c = (refl, tt)
+invariant_of-result c = record { ok = refl }

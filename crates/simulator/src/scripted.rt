@@ -4,7 +4,7 @@ ghost use Rattle.bootloader.specs.Frames.{decode_of};
 ghost use Rattle.bootloader.specs.Replies.{status_reply};
 ghost use Rattle.sensor.specs.Sensors.{in_loader};
 ghost use Rattle.sensor.specs.Exchanges.{writes, reads, acknowledged, missed, filled};
-ghost use Rattle.sensor.specs.declared.registers.Asked.TheVariants.{Status as status-asked};
+ghost use Rattle.sensor.specs.declared.registers.Asked.TheVariants.{Status as status_asked};
 ghost use Rattle.sensor.specs.Meaning.{asked};
 ghost use Rattle.chip.specs.Chips.{sensor_in, sensor_of};
 ghost use Rattle.simulator.specs.States.{first, advanced};
@@ -51,7 +51,7 @@ impl<'a> Core<'a> {
     // Just switched on.
     pub fn new(ram: &'a mut [u8], script: &'a [u8]) -> Core<'a>
         ensures state { sim_in result ≡ first ram.old script.now }
-        ensures lent { result.chip.ram.name ≡ ram.entry.name }
+        ensures lent { result.chip.ram.ghost_name ≡ ram.entry.ghost_name }
     {
         Core {
             chip: Chip::switched_on(ram),
@@ -232,7 +232,7 @@ impl<'a> Core<'a> {
 
     // A status read uses up a busy reply, or ends the work.
     fn look_at_status(&mut self)
-        ensures { sim_in self.new ≡ looked status-asked (sim_in self.old) }
+        ensures { sim_in self.new ≡ looked status_asked (sim_in self.old) }
     {
         if self.chip.stage() != Stage::Loader {
             return;

@@ -1,6 +1,6 @@
 use Rattle.std.proofs.Common.{arith, rules}
 use Rattle.std.proofs.lemmas.List.{get_or_past}
-use Rattle.simulator.proofs.core.Core.take_fate.Goals as goal
+use Rattle.simulator.proofs.scripted.Core.take_fate.Goals as goal
 
 pub returns-then-self : goal.returns-then-self
 returns-then-self c =

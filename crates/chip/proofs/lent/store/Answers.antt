@@ -1,8 +1,8 @@
 use Rattle.std.proofs.Common.{◌≡◌, get_or, set, sym, ◌∙◌, arith}
 use lib.Seq.{set_out}
 use Rattle.chip.proofs.Storing.{store_more, store_all}
-use Rattle.chip.proofs.core.store.Goals.{then-at-ram, else-at-ram}
-use Rattle.chip.proofs.core.store.Goals as goal
+use Rattle.chip.proofs.lent.store.Goals.{then-at-ram, else-at-ram}
+use Rattle.chip.proofs.lent.store.Goals as goal
 
 pub loop-b-preserved : goal.loop-b-preserved
 loop-b-preserved c =

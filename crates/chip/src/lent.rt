@@ -25,7 +25,7 @@ impl<'a> Chip<'a> {
     // Just switched on.
     pub fn switched_on(ram: &'a mut [u8]) -> Chip<'a>
         ensures state { sensor_in result ≡ switched_on ram.old }
-        ensures lent { result.ram.name ≡ ram.entry.name }
+        ensures lent { result.ram.ghost_name ≡ ram.entry.ghost_name }
     {
         Chip {
             ram,
