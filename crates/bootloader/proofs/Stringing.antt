@@ -1,5 +1,5 @@
 -- A command's string from its frame. Assumes nothing.
-use Rattle.std.proofs.Common.{◌≡◌, ℕ, ◌+◌, ◌-◌, ◌≤◌, List, ◌++◌, length, take, drop, IfOk, Ok, Err, codes, Result, ap, ◌∙◌, arith}
+use Rattle.std.proofs.Common.{◌≡◌, ℕ, ◌-◌, ◌≤◌, List, ◌++◌, length, take, drop, IfOk, Ok, Err, codes, Result, ap, ◌∙◌, arith}
 use Rattle.std.proofs.lemmas.Bool.{le-leb}
 use Rattle.checksum.specs.Outcomes.{map_ok}
 use Rattle.bootloader.specs.declared.fault.FrameFault.{FrameFault}

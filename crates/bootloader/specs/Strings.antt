@@ -1,5 +1,5 @@
 -- Frames as I2C strings. Assumes nothing.
-use Rattle.std.specs.Prelude.{ℕ, ◌+◌, ◌-◌, ◌/◌, ◌%◌, cond, List, [], ◌∷◌, ◌++◌, length, Ok, codes, Result, nat_le}
+use Rattle.std.specs.Prelude.{ℕ, ◌/◌, ◌%◌, List, [], ◌∷◌, ◌++◌, length, Ok, codes, Result, nat_le}
 use Rattle.std.specs.List.{flat_map}
 use Rattle.checksum.specs.Capitals.{capital}
 use Rattle.bootloader.specs.declared.fault.FrameFault.{FrameFault}

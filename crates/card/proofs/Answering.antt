@@ -1,13 +1,13 @@
 -- The reader's answer from the laws. Assumes nothing.
-use Rattle.std.proofs.Common.{◌≡◌, ℕ, cond, not, eqb, List, map, Ok, Err, Result, sym, refl, ap, ◌∙◌, subst, MatchResult}
+use Rattle.std.proofs.Common.{◌≡◌, ℕ, cond, not, List, map, Ok, Err, Result, sym, ap, ◌∙◌, MatchResult}
 use Rattle.std.proofs.lemmas.Bool.{eq-eqb}
 use Rattle.hexline.specs.declared.fault.TextFault.{TextFault}
 use Rattle.hexline.specs.declared.fault.TextFault.TheVariants.{RowLength}
 use Rattle.ihex.specs.Reads.{text_of, read_text}
 use Rattle.ihex.specs.Named.{data_lines}
-use Rattle.canonical.specs.Canonical.{DataSpec, data_spec, canonical_text}
+use Rattle.canonical.specs.Canonical.{data_spec}
 use Rattle.canonical.proofs.ReadBack.{reads_back}
-use Rattle.refusals.specs.Exact.{Refused, Accepted, Exact}
+use Rattle.refusals.specs.Exact.{Refused, Accepted}
 use Rattle.refusals.proofs.Whole.{exact}
 use Rattle.card.specs.Answers.{Answered}
 

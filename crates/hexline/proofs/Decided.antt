@@ -1,9 +1,9 @@
 -- Rules, of which the first that is broken decides. Assumes nothing.
-use Rattle.std.proofs.Common.{◌≡◌, ℕ, Bool, true, false, cond, List, [], ◌∷◌, ◌++◌, Ok, Err, Result, sym, refl, ap, ◌∙◌, arith}
+use Rattle.std.proofs.Common.{◌≡◌, ℕ, true, false, cond, List, [], ◌∷◌, ◌++◌, Ok, Err, refl, arith}
 use Rattle.std.specs.List.{AllByRecursion as All}
 use Rattle.checksum.specs.Outcomes.{and_then}
 use Rattle.hexline.specs.declared.fault.TextFault.{TextFault}
-use Rattle.hexline.specs.Faults.{Rule, rule, decided}
+use Rattle.hexline.specs.Faults.{Rule, decided}
 
 -- some rules, and then the others
 pub decided_append : {X : Type 0} (rs qs : List Rule) (x : X) → decided (rs ++ qs) x ≡ and_then (decided {X = Unit {0}} rs tt) (λ _. decided qs x)

@@ -1,14 +1,14 @@
 -- What a line that is read says of its digits. Assumes nothing.
-use Rattle.std.proofs.Common.{◌≡◌, ℕ, ◌+◌, ◌-◌, ◌*◌, ◌/◌, ◌<◌, ◌≤◌, min, Bool, true, false, cond, not, ◌||◌, eqb, ltb, leb, ◌⊎◌, List, [], ◌∷◌, ◌++◌, length, get_or, take, drop, replicate, Some, None, Ok, Err, Result, unwrap_or, sym, refl, ap, ◌∙◌, subst, inl, inr, arith, rules}
+use Rattle.std.proofs.Common.{◌≡◌, ℕ, ◌+◌, ◌-◌, ◌*◌, ◌/◌, ◌<◌, ◌≤◌, min, true, false, cond, not, ◌||◌, eqb, ltb, leb, List, ◌++◌, length, get_or, take, drop, Some, None, Ok, Err, unwrap_or, sym, refl, ap, ◌∙◌, subst, inl, inr, arith}
 use Rattle.std.proofs.lemmas.List.{length-take, take_at, take_all, length-drop, length-append}
 use Rattle.std.proofs.lemmas.Bool.{leb-true, and_parts, eq-eqb, eqb-true, cases_lt, not-false, or_parts}
 use Rattle.checksum.specs.Outcomes.{and_then}
 use Rattle.hexline.specs.declared.fault.TextFault.{TextFault}
-use Rattle.hexline.specs.Digits.{within, pairs, pair_value, hex_value, digit_of}
-use Rattle.hexline.specs.Records.{lacks_digits, known_type, count_on, address_on, type_on, upper_on, data_digits, data_on}
+use Rattle.hexline.specs.Digits.{within, pairs, pair_value, hex_value}
+use Rattle.hexline.specs.Records.{lacks_digits, known_type, count_on, address_on, type_on, upper_on, data_digits}
 use Rattle.hexline.specs.Faults.{decided}
 use Rattle.hexline.specs.Lines.{single_line, LineIs, digits_in, data_is, end_is, base_is, start_is, form_rules, type_rules, line_rules, case_of, line_of}
-use Rattle.hexline.specs.Rows.{cleared, filled, row_of, row_after_line}
+use Rattle.hexline.specs.Rows.{cleared, row_after_line}
 use Rattle.hexline.proofs.Decided.{decided_append, decided_ok, decided_kept}
 use Rattle.hexline.proofs.Pairs.{get_or_pairs, get_or_pairs_past, length_pairs}
 

@@ -1,5 +1,5 @@
 -- What a line is read as. Assumes nothing.
-use Rattle.std.specs.Prelude.{ℕ, ◌+◌, Bool, cond, not, List, [], ◌∷◌, ◌++◌, length, Ok, Err, Result, ◌==◌}
+use Rattle.std.specs.Prelude.{ℕ, ◌+◌, cond, not, List, [], ◌∷◌, ◌++◌, Ok, Err, Result, ◌==◌}
 use Rattle.hexline.specs.declared.fault.TextFault.{TextFault}
 use Rattle.hexline.specs.declared.fault.TextFault.TheVariants.{NoColon, NoDigit, WrongLength, WrongSum, UnknownType, WrongShape, RowLength}
 use Rattle.hexline.specs.declared.line.Line.{Line}

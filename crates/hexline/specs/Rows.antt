@@ -1,7 +1,6 @@
 -- What the caller's row of 255 bytes holds. Assumes nothing.
 use Rattle.std.specs.Prelude.{ℕ, ◌-◌, cond, not, List, ◌++◌, length, take, replicate, Ok, Err, Result, ◌==◌}
 use Rattle.hexline.specs.declared.fault.TextFault.{TextFault}
-use Rattle.hexline.specs.Digits.{pairs}
 use Rattle.hexline.specs.Records.{data_on}
 use Rattle.hexline.specs.Lines.{LineIs, line_of}
 

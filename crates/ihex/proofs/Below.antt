@@ -1,8 +1,8 @@
 -- Where the frames of a text go, and how long they are. Assumes nothing.
-use Rattle.std.proofs.Common.{◌≡◌, ℕ, zero, suc, ◌+◌, ◌-◌, ◌/◌, ◌<◌, ◌≤◌, Bool, true, false, cond, ◌&&◌, ◌||◌, ltb, List, [], ◌∷◌, ◌++◌, length, take, drop, fold, sym, refl, ap, ◌∙◌, ⊎_elim, arith}
+use Rattle.std.proofs.Common.{◌≡◌, ℕ, zero, suc, ◌+◌, ◌/◌, ◌<◌, ◌≤◌, true, false, ◌&&◌, ltb, List, [], ◌∷◌, length, drop, fold, sym, refl, ◌∙◌, ⊎_elim, arith}
 use Rattle.std.proofs.ByRecursion.{All-append}
 use Rattle.std.proofs.lemmas.List.{length-take, length-drop}
-use Rattle.std.proofs.lemmas.Bool.{ltb-true, ltb-false, lt-ltb, and_cases, cases_lt, both_ways, true≢false}
+use Rattle.std.proofs.lemmas.Bool.{ltb-false, lt-ltb, and_cases, both_ways, true≢false}
 use Rattle.std.specs.List.{flat_map, AllByRecursion as All}
 use Rattle.ihex.specs.Named.{DataIs, bytes_in, data_lines, reaches_next, reaches}
 use Rattle.ihex.specs.Frames.{Chunk, FrameIs, chunks, line_chunks, numbered, frames_of}

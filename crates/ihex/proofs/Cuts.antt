@@ -1,8 +1,8 @@
 -- A text's first line, and those after it. Assumes nothing.
-use Rattle.std.proofs.Common.{◌≡◌, ℕ, zero, suc, ◌+◌, ◌-◌, ◌<◌, ◌≤◌, Bool, true, false, cond, ◌&&◌, eqb, List, [], ◌∷◌, length, get_or, take, drop, sym, refl, ap, ◌∙◌, ⊎_elim, arith}
+use Rattle.std.proofs.Common.{◌≡◌, ℕ, zero, suc, ◌+◌, ◌-◌, ◌<◌, ◌≤◌, Bool, true, false, cond, eqb, List, [], ◌∷◌, length, get_or, take, drop, sym, refl, ap, ◌∙◌, ⊎_elim, arith}
 use Rattle.std.proofs.lemmas.List.{get_or-drop, get_or-take, drop-drop, drop_all, take_rest, length-drop, length-take-le, take-take, get_or_past}
 use Rattle.std.proofs.lemmas.Bool.{eq-eqb, ne_eqb, cases_lt}
-use Rattle.ihex.specs.Texts.{Stretch, TextLine, on_first, stretches, size_of, trimmed, placed}
+use Rattle.ihex.specs.Texts.{Stretch, TextLine, on_first, stretches, size_of, placed}
 
 abbrev pub stretch : List ℕ → Bool → Stretch
 stretch cs b = record { chars = cs; feed = b }

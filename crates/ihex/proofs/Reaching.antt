@@ -1,5 +1,5 @@
 -- Whether a line names a byte at or above a window's end. Assumes nothing.
-use Rattle.std.proofs.Common.{◌≡◌, ℕ, ◌+◌, ◌/◌, ◌<◌, ◌≤◌, Bool, true, false, cond, ◌&&◌, ◌||◌, ltb, List, [], ◌∷◌, length, fold, sym, refl, ap, ◌∙◌, ⊎_elim, arith}
+use Rattle.std.proofs.Common.{◌≡◌, ℕ, ◌+◌, ◌/◌, ◌<◌, true, false, ltb, List, [], ◌∷◌, length, fold, refl, ap, ◌∙◌, ⊎_elim, arith}
 use Rattle.std.proofs.lemmas.Bool.{lt-ltb, le-ltb, and_from, and_left, and_right, cases_lt}
 use Rattle.ihex.specs.Named.{DataIs, bytes_in, reaches_next}
 use Rattle.hexline.proofs.Pairs.{length_pairs}

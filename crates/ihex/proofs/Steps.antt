@@ -1,19 +1,18 @@
 -- One line more, and all of them. Assumes nothing.
-use Rattle.std.proofs.Common.{◌≡◌, ℕ, ◌+◌, ◌/◌, ◌<◌, ◌≤◌, Bool, true, false, cond, not, ◌&&◌, ◌||◌, eqb, ltb, List, [], ◌∷◌, ◌++◌, length, drop, Ok, Err, Result, sym, refl, ap, ◌∙◌, subst, arith}
-use Rattle.std.proofs.lemmas.List.{append-nil}
+use Rattle.std.proofs.Common.{◌≡◌, ℕ, ◌+◌, ◌/◌, ◌≤◌, Bool, true, false, cond, ◌&&◌, ◌||◌, eqb, ltb, List, [], ◌∷◌, ◌++◌, length, drop, Ok, Err, Result, sym, refl, ap, ◌∙◌, arith}
 use Rattle.std.proofs.lemmas.List.Sums.{fold_push}
 use Rattle.checksum.specs.Outcomes.{and_then}
 use Rattle.hexline.specs.declared.fault.TextFault.{TextFault}
 use Rattle.hexline.specs.declared.fault.TextFault.TheVariants.{AfterEnd}
 use Rattle.ihex.specs.declared.reads.Seen.{Seen}
 use Rattle.hexline.specs.Faults.{Rule, rule, decided}
-use Rattle.ihex.specs.Texts.{TextLine, placed, stretches, lines_of}
+use Rattle.ihex.specs.Texts.{TextLine, placed, stretches}
 use Rattle.hexline.specs.Records.{count_on, address_on, type_on, upper_on}
 use Rattle.hexline.specs.Lines.{LineIs, data_is, end_is, base_is, start_is, line_rules, case_of, line_of}
 use Rattle.ihex.specs.Reads.{seen_next, nothing_seen, seen_after, data_rules, order_rules, rules_beside, lines_kept}
-use Rattle.hexline.proofs.Decided.{decided_err, decided_ok, decided_past, decided_stop}
+use Rattle.hexline.proofs.Decided.{decided_ok, decided_past, decided_stop}
 use Rattle.ihex.proofs.Cuts.{no_lines}
-use Rattle.hexline.proofs.Sorted.{CaseFacts, case_facts}
+use Rattle.hexline.proofs.Sorted.{case_facts}
 
 abbrev pub line_at : ℕ → ℕ → List ℕ → TextLine
 line_at n p cs = record { number = n; place = p; chars = cs }

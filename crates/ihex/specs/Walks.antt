@@ -1,5 +1,5 @@
 -- What is still to come in a walk over a patch. Assumes nothing.
-use Rattle.std.specs.Prelude.{ℕ, List, ◌++◌, length, take, drop}
+use Rattle.std.specs.Prelude.{List, ◌++◌, take, drop}
 use Rattle.std.specs.List.{flat_map}
 use Rattle.ihex.specs.declared.walk.DataLine.{DataLine}
 use Rattle.ihex.specs.declared.walk.DataLines.{DataLines}

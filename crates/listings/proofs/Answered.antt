@@ -1,12 +1,11 @@
 -- What the listing answers. Assumes nothing.
-use Rattle.std.proofs.Common.{◌≡◌, ℕ, ◌<◌, ◌≤◌, Bool, true, false, cond, List, length, Ok, Err, vec_items, Result, sym, refl, ap, ◌∙◌, subst, MatchResult}
+use Rattle.std.proofs.Common.{◌≡◌, ℕ, ◌<◌, ◌≤◌, true, false, List, length, Ok, Err}
 use Rattle.std.proofs.lemmas.Bool.{lt-ltb, le-ltb}
 use Rattle.hexline.specs.declared.fault.TextFault.{TextFault}
 use Rattle.hexline.specs.declared.fault.TextFault.TheVariants.{TooLong}
 use Rattle.ihex.specs.Reads.{text_of}
 use Rattle.ihex.specs.Named.{reaches}
-use Rattle.listings.specs.declared.fault.ProgramFault.{ProgramFault}
-use Rattle.listings.specs.declared.fault.ProgramFault.TheVariants.{Text, PastWindow, Memory}
+use Rattle.listings.specs.declared.fault.ProgramFault.TheVariants.{Text, PastWindow}
 use Rattle.listings.specs.Outputs.{listed, strings_of}
 
 module _ (text : List ℕ) where

@@ -1,10 +1,10 @@
 -- Strings laid one after the other. Assumes nothing.
-use Rattle.std.proofs.Common.{◌≡◌, ℕ, ◌+◌, Bool, true, false, cond, List, [], ◌∷◌, ◌++◌, length, Some, None, Option, sym, refl, ap, ◌∙◌}
+use Rattle.std.proofs.Common.{◌≡◌, ℕ, ◌+◌, true, false, cond, List, [], ◌∷◌, ◌++◌, length, Some, None, Option, sym, ap, ◌∙◌}
 use Rattle.std.proofs.lemmas.List.{append-nil, append_assoc}
 use Rattle.std.specs.List.{flat_map}
 use Rattle.checksum.proofs.Joins.{joined_append}
 use Rattle.ihex.specs.Frames.{FrameIs}
-use Rattle.bootloader.specs.Commands.{CommandIs, addr_ram, write_ram, download_init, ram_remap_reset}
+use Rattle.bootloader.specs.Commands.{addr_ram, write_ram, download_init, ram_remap_reset}
 use Rattle.listings.specs.Listed.{stands_at, addressed, writes, commands_of}
 use Rattle.listings.specs.Outputs.{command_string}
 

@@ -1,5 +1,5 @@
 -- Which commands a clean session sends for a patch. Assumes nothing.
-use Rattle.std.specs.Prelude.{ℕ, ◌+◌, Bool, true, false, cond, List, [], ◌∷◌, ◌++◌, length, Some, None, Option, ◌==◌}
+use Rattle.std.specs.Prelude.{ℕ, ◌+◌, Bool, false, cond, List, [], ◌∷◌, ◌++◌, length, Some, None, Option, ◌==◌}
 use Rattle.ihex.specs.Frames.{FrameIs}
 use Rattle.bootloader.specs.Commands.{CommandIs, ram_remap_reset, download_init, write_ram, addr_ram}
 

@@ -1,8 +1,7 @@
 -- What the listing prints for a text. Assumes nothing.
-use Rattle.std.specs.Prelude.{◌≡◌, ℕ, ◌+◌, Bool, true, false, cond, List, [], ◌∷◌, ◌++◌, length, is_ok, Ok, Err, codes, decimal, Result, nat_lt}
+use Rattle.std.specs.Prelude.{ℕ, cond, List, ◌++◌, length, Ok, Err, codes, decimal, Result, nat_lt}
 use Rattle.std.specs.List.{flat_map}
 use Rattle.checksum.specs.Outcomes.{and_then, map_err}
-use Rattle.hexline.specs.declared.fault.TextFault.{TextFault}
 use Rattle.hexline.specs.declared.fault.TextFault.TheVariants.{TooLong}
 use Rattle.hexline.specs.Faults as text
 use Rattle.ihex.specs.Reads.{text_of}

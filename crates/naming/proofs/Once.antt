@@ -1,22 +1,22 @@
 -- No two lines of an accepted text name one address. Assumes nothing.
-use Rattle.std.proofs.Common.{◌≡◌, ℕ, ◌+◌, ◌/◌, ◌<◌, ◌≤◌, Bool, true, false, cond, eqb, ◌⊎◌, List, [], ◌∷◌, ◌++◌, length, is_ok, Ok, Err, fold, Result, sym, refl, ap, ◌∙◌, subst, inl, inr, ⊎_elim, arith}
+use Rattle.std.proofs.Common.{◌≡◌, ℕ, ◌+◌, ◌/◌, ◌<◌, ◌≤◌, true, cond, List, [], ◌∷◌, ◌++◌, length, is_ok, Ok, Err, fold, Result, sym, refl, ap, ◌∙◌, subst, ⊎_elim, arith}
 use Rattle.std.proofs.ByRecursion.{All-push}
 use Rattle.std.proofs.lemmas.List.Sums.{fold_push}
-use Rattle.std.proofs.lemmas.Bool.{true≢false, eqb-true, eqb-false, eq-eqb, ne_eqb, cases_lt, cases_eq}
+use Rattle.std.proofs.lemmas.Bool.{true≢false, eq-eqb, ne_eqb, cases_lt, cases_eq}
 use Rattle.std.specs.List.{flat_map, AllByRecursion as All}
 use Rattle.hexline.specs.declared.fault.TextFault.{TextFault}
 use Rattle.hexline.specs.declared.fault.TextFault.TheVariants.{Backward}
 use Rattle.hexline.specs.Records.{count_on, address_on, type_on, data_digits}
 use Rattle.ihex.specs.Texts.{TextLine, lines_of}
-use Rattle.ihex.specs.Reads.{end_next, ends_next, text_of, accepted}
+use Rattle.ihex.specs.Reads.{end_next, text_of, accepted}
 use Rattle.ihex.specs.Named.{DataIs, data_in, data_lines}
 use Rattle.ihex.proofs.Walked.{walk_skips, walk_finds}
 use Rattle.refusals.specs.Bad.{NoneOf, end_on}
-use Rattle.refusals.specs.Exact.{Clean, Accepted}
-use Rattle.refusals.proofs.Lasts.{so_says, none_ends}
+use Rattle.refusals.specs.Exact.{Clean}
+use Rattle.refusals.proofs.Lasts.{so_says}
 use Rattle.refusals.proofs.Naming.{Counted}
 use Rattle.refusals.proofs.Whole.{nothing_after, accepted_counted, accepted_so}
-use Rattle.naming.specs.Bytes.{Names, AtMostOnce}
+use Rattle.naming.specs.Bytes.{AtMostOnce}
 
 -- each line starts at or above the end of the one before it
 abbrev Up : ℕ → List DataIs → Type 0

@@ -1,9 +1,9 @@
 -- Whether a text names a byte at or above a window's end. Assumes nothing.
-use Rattle.std.proofs.Common.{◌≡◌, ℕ, ◌+◌, ◌-◌, ◌/◌, ◌<◌, ◌≤◌, Bool, true, false, cond, ◌&&◌, ◌||◌, ltb, List, [], ◌∷◌, ◌++◌, length, Some, None, fold, Option, sym, refl, ap, ◌∙◌, subst, arith}
+use Rattle.std.proofs.Common.{◌≡◌, ℕ, ◌+◌, ◌-◌, ◌≤◌, Bool, true, false, ◌&&◌, ltb, List, [], ◌∷◌, length, Some, None, fold, sym, refl, ◌∙◌, arith}
 use Rattle.std.proofs.lemmas.Bool.{true≢false, ltb-true, lt-ltb, and_parts, and_from}
 use Rattle.std.specs.List.{AllByRecursion as All}
 use Rattle.hexline.proofs.Pairs.{length_pairs}
-use Rattle.ihex.specs.Named.{DataIs, bytes_in, data_lines, named, reaches_next, reaches}
+use Rattle.ihex.specs.Named.{DataIs, bytes_in, data_lines, named, reaches_next}
 use Rattle.ihex.proofs.Reaching.{reached}
 use Rattle.naming.specs.Bytes.{Names, ReachesSo}
 use Rattle.naming.proofs.Lasts.{by_last}

@@ -1,12 +1,11 @@
 -- What frames write. Assumes nothing.
-use Rattle.std.proofs.Common.{◌≡◌, ℕ, zero, suc, ◌+◌, ◌-◌, ◌/◌, ◌<◌, ◌≤◌, Bool, true, false, cond, ◌&&◌, eqb, ltb, leb, ◌⊎◌, List, [], ◌∷◌, ◌++◌, length, get_or, take, drop, Some, None, fold, Option, sym, refl, ap, ◌∙◌, subst, inl, inr, ⊎_elim, arith}
-use Rattle.std.proofs.lemmas.List.{append-nil, append_assoc, length-take, length-drop, take-append-drop, take_all, drop_all, get_or_past, nil_from_length}
+use Rattle.std.proofs.Common.{◌≡◌, ℕ, zero, suc, ◌+◌, ◌-◌, ◌/◌, cond, ltb, leb, List, [], ◌∷◌, ◌++◌, length, get_or, take, drop, Some, None, fold, Option, sym, refl, ap, ◌∙◌, ⊎_elim, arith}
+use Rattle.std.proofs.lemmas.List.{length-take, length-drop, take-append-drop, drop_all, nil_from_length}
 use Rattle.std.proofs.lemmas.Bool.{eq-eqb, ne_eqb, le-leb, lt-leb, lt-ltb, le-ltb, and_from, and_left, and_right, cases_lt, cases_eq}
 use Rattle.std.specs.List.{flat_map}
 use Rattle.checksum.proofs.Joins.{joined_append, folded_append}
-use Rattle.ihex.specs.Named.{DataIs, bytes_in, data_lines, byte_at, held, named_next, named}
-use Rattle.ihex.specs.Frames.{Chunk, FrameIs, chunks, chunks_of, line_chunks, numbered, frames_of}
-use Rattle.ihex.proofs.Chunked.{chunks_none, chunks_first}
+use Rattle.ihex.specs.Named.{DataIs, bytes_in, data_lines, byte_at, held, named_next}
+use Rattle.ihex.specs.Frames.{Chunk, chunks, line_chunks, numbered}
 use Rattle.naming.specs.Bytes.{Write, writes_from, line_writes, frame_writes, put_next, last_put, FramesWrite}
 
 writes_append : (start : ℕ) (xs ys : List ℕ) → writes_from start (xs ++ ys) ≡ writes_from start xs ++ writes_from (start + length xs) ys

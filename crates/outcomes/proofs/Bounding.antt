@@ -12,7 +12,7 @@ use Rattle.sensor.specs.declared.stage.Stage.{Stage}
 use Rattle.sensor.specs.declared.stage.Stage.TheVariants.{Asleep as asleep, Starting as starting, Loader as loader, Application as application}
 use Rattle.sensor.specs.Kinds.{KindIs, seen, ordered}
 use Rattle.sensor.specs.Exchanges.{Exchange, writes, reads, Answer, acknowledged, missed, filled, sized}
-use Rattle.sensor.specs.Sensors.{Sensor, after_order, woken, started, rested, carried_out, able, counts, in_loader}
+use Rattle.sensor.specs.Sensors.{Sensor, after_order, woken, rested, carried_out, able, counts, in_loader}
 use Rattle.sensor.specs.declared.registers.Asked.{Asked}
 use Rattle.sensor.specs.declared.registers.Asked.TheVariants.{Status as status_asked, Stage as enable_asked, App as app_asked, Other as other_asked}
 use Rattle.sensor.specs.Meaning.{Noisy, CutShort, Refused, CarriedOut, Obeyed, Judged, Taken, FrameSent, Told, Written, told, enable_at, AppShown, StatusShown, asked, Shown, Does, MayStart, Happens, Allowed, Means}

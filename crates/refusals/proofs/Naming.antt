@@ -1,11 +1,10 @@
 -- Whether a text names a byte at all. Assumes nothing.
-use Rattle.std.proofs.Common.{◌≡◌, ℕ, ◌+◌, ◌-◌, ◌*◌, ◌/◌, ◌<◌, ◌≤◌, Bool, true, false, cond, ◌&&◌, ◌||◌, eqb, ltb, leb, ◌⊎◌, List, [], ◌∷◌, ◌++◌, length, get_or, take, drop, Some, None, fold, Option, sym, refl, ap, ◌∙◌, subst, inl, inr, ⊎_elim, arith}
+use Rattle.std.proofs.Common.{◌≡◌, ℕ, ◌+◌, ◌-◌, ◌*◌, ◌/◌, ◌<◌, ◌≤◌, true, false, cond, ◌&&◌, ltb, leb, List, [], ◌∷◌, ◌++◌, length, get_or, drop, Some, None, fold, Option, sym, refl, ap, ◌∙◌, ⊎_elim, arith}
 use Rattle.std.proofs.lemmas.List.{length-take}
-use Rattle.std.proofs.lemmas.Bool.{true≢false, and_parts, and_from, and_cases, and_left, and_right, le-leb, lt-leb, lt-ltb, le-ltb, ltb-true, ltb-false, cases_Bool, cases_lt}
+use Rattle.std.proofs.lemmas.Bool.{true≢false, and_parts, and_from, and_left, and_right, le-leb, lt-leb, lt-ltb, le-ltb, ltb-true, ltb-false, cases_lt}
 use Rattle.std.specs.List.{flat_map, AllByRecursion as All}
 use Rattle.checksum.proofs.Joins.{folded_append}
-use Rattle.hexline.specs.Digits.{pairs}
-use Rattle.hexline.specs.Records.{count_on, address_on, type_on, data_digits}
+use Rattle.hexline.specs.Records.{count_on, address_on, data_digits}
 use Rattle.hexline.proofs.Pairs.{length_pairs, pairs_none}
 use Rattle.ihex.specs.Texts.{TextLine}
 use Rattle.ihex.specs.Reads.{is_data, names_next}

@@ -1,15 +1,14 @@
 -- A line is bad by a refusal exactly if the rule of that refusal is broken. Assumes nothing.
-use Rattle.std.proofs.Common.{◌≡◌, ℕ, ◌+◌, ◌<◌, ◌≤◌, Bool, true, false, cond, not, ◌&&◌, ◌||◌, eqb, ltb, ◌⊎◌, List, [], ◌∷◌, ◌++◌, fold, sym, refl, ap, ◌∙◌, subst, inl, inr, ⊎_elim, arith}
-use Rattle.std.proofs.lemmas.Bool.{true≢false, not-true, not-false, not_from_false, eqb-true, eqb-false, eq-eqb, ne_eqb, ltb-true, lt-ltb, cases_Bool, cases_eq}
-use Rattle.std.specs.List.{AllByRecursion as All}
+use Rattle.std.proofs.Common.{◌≡◌, ℕ, ◌+◌, ◌<◌, true, false, cond, eqb, List, [], ◌∷◌, ◌++◌, fold, sym, refl, ap, ◌∙◌, subst, inl, inr, ⊎_elim, arith}
+use Rattle.std.proofs.lemmas.Bool.{true≢false, not-true, not_from_false, eqb-false, eq-eqb, ne_eqb, ltb-true, lt-ltb, cases_Bool, cases_eq}
 use Rattle.hexline.specs.declared.fault.TextFault.{TextFault}
 use Rattle.hexline.specs.declared.fault.TextFault.TheVariants.{TooLong, NoColon, NoDigit, WrongLength, WrongSum, UnknownType, WrongShape, WrongUpper, Backward, PastTop, NoEnd, AfterEnd, NothingNamed, RowLength}
-use Rattle.hexline.specs.Faults.{Rule, rule, number_of}
+use Rattle.hexline.specs.Faults.{rule}
 use Rattle.hexline.specs.Records.{count_on, address_on, type_on, upper_on, stray_on}
 use Rattle.hexline.specs.Lines.{line_rules}
 use Rattle.ihex.specs.Texts.{TextLine}
 use Rattle.ihex.specs.Reads.{upper_next, end_next, ends_next, nothing_seen, seen_after, data_rules, order_rules, rules_beside}
-use Rattle.refusals.specs.Bad.{NoneOf, LastSays, end_on, Bad}
+use Rattle.refusals.specs.Bad.{NoneOf, end_on, Bad}
 use Rattle.refusals.proofs.Broken.{Broken, Ascends, chain_ascends, broken_left, broken_right, broken_either}
 use Rattle.refusals.proofs.Tests.{colon_off, off_colon, stray_so, stray_is, is_stray, missing_so, so_missing, sum_so, so_sum, unknown_so, so_unknown, shapes_so, so_shapes}
 use Rattle.refusals.proofs.Lasts.{says_so, so_says, upper_seen, top_seen, ended_seen, ends_none, none_ends}

@@ -1,10 +1,10 @@
 -- Each test of a line, and what it means. Assumes nothing.
-use Rattle.std.proofs.Common.{◌≡◌, ℕ, zero, suc, ◌+◌, ◌-◌, ◌*◌, ◌<◌, ◌≤◌, Bool, true, false, cond, not, ◌&&◌, ◌||◌, eqb, ltb, leb, ◌⊎◌, List, [], ◌∷◌, ◌++◌, length, get_or, drop, is_some, Some, None, sym, refl, ap, ◌∙◌, subst, inl, inr, ⊎_elim, arith}
+use Rattle.std.proofs.Common.{◌≡◌, ℕ, zero, suc, ◌+◌, ◌-◌, ◌*◌, ◌<◌, ◌≤◌, Bool, true, false, cond, not, ◌&&◌, ◌||◌, eqb, ltb, leb, List, [], ◌∷◌, length, get_or, drop, is_some, Some, None, sym, refl, ap, ◌∙◌, inl, inr, ⊎_elim, arith}
 use Rattle.std.proofs.lemmas.List.{get_or-drop, length-drop}
-use Rattle.std.proofs.lemmas.Bool.{true≢false, false≢true, not-true, not-false, not_from_true, not_from_false, eqb-true, eqb-false, eq-eqb, ne_eqb, lt-ltb, le-ltb, ltb-true, ltb-false, le-leb, leb-true, leb-false, and_parts, and_from, and_cases, and_left, and_right, or_cases, or_parts, or_left, or_right, or_from, cases_eq, cases_lt, cases_Bool}
+use Rattle.std.proofs.lemmas.Bool.{true≢false, false≢true, not-true, not_from_false, eqb-true, eqb-false, eq-eqb, ne_eqb, lt-ltb, ltb-true, le-leb, leb-true, and_parts, and_from, or_cases, or_parts, or_left, or_right, or_from, cases_lt, cases_Bool}
 use Rattle.std.specs.List.{prefix_len}
 use Rattle.checksum.specs.Sums.{sum256}
-use Rattle.hexline.specs.Digits.{within, digit_of, is_digit, pair_value, pairs}
+use Rattle.hexline.specs.Digits.{within, is_digit, pair_value}
 use Rattle.hexline.specs.Records.{bytes_on, count_on, address_on, type_on, stray_on, lacks_colon, has_stray, lacks_digits, sums_wrong, known_type, fixed_count, misshapen}
 use Rattle.hexline.proofs.Pairs.{get_or_pairs}
 use Rattle.refusals.specs.Bad.{Digit, NotColonFirst, StrayAt, DigitsMissing, SumOff, TypeUnknown, ShapeOff, Misshapen}

@@ -1,5 +1,5 @@
 -- The answer that a whole text gets. Assumes nothing.
-use Rattle.std.proofs.Common.{◌≡◌, ℕ, suc, ◌+◌, ◌<◌, ◌≤◌, Bool, true, false, cond, not, eqb, ltb, ◌⊎◌, List, [], ◌∷◌, ◌++◌, length, Some, None, Ok, Err, fold, Option, Result, sym, refl, ap, ◌∙◌, subst, inl, inr, ⊎_elim, arith}
+use Rattle.std.proofs.Common.{◌≡◌, ℕ, ◌+◌, ◌<◌, ◌≤◌, true, false, cond, not, eqb, List, [], ◌∷◌, ◌++◌, length, Some, None, Ok, Err, fold, Option, Result, sym, refl, ap, ◌∙◌, subst, ⊎_elim, arith}
 use Rattle.std.proofs.ByRecursion.{All-push}
 use Rattle.std.proofs.lemmas.List.Sums.{fold_push}
 use Rattle.std.proofs.lemmas.Bool.{true≢false, eqb-true, eqb-false, eq-eqb, or_right, lt-ltb, le-ltb, cases_lt, cases_Bool}
@@ -14,8 +14,8 @@ use Rattle.ihex.specs.declared.reads.Seen.{Seen}
 use Rattle.ihex.specs.Texts.{Stretch, TextLine, stretches, size_of, trimmed, placed, lines_of}
 use Rattle.ihex.specs.Reads.{longest_text, names_next, ends_next, seen_next, nothing_seen, seen_after, lines_kept, whole_rules, text_of}
 use Rattle.ihex.specs.Named.{named, data_lines}
-use Rattle.refusals.specs.Bad.{NoneOf, Bad}
-use Rattle.refusals.specs.Exact.{Clean, FirstBad, EndMissing, NoByte, Refused, too_long, bad_line, end_missing, no_byte, Accepted, Exact}
+use Rattle.refusals.specs.Bad.{NoneOf}
+use Rattle.refusals.specs.Exact.{Clean, Refused, too_long, bad_line, end_missing, no_byte, Accepted, Exact}
 use Rattle.refusals.proofs.Lasts.{names_seen, ended_seen, ends_none, none_ends}
 use Rattle.refusals.proofs.Tests.{missing_so}
 use Rattle.refusals.proofs.Found.{clean_kept, kept_clean, stopped_first, first_stops}

@@ -1,5 +1,5 @@
 -- Lines written with their ends. Assumes nothing.
-use Rattle.std.specs.Prelude.{◌≡◌, ℕ, ◌-◌, Bool, cond, List, [], ◌∷◌, ◌++◌, map, length, ◌≢◌, slice_index}
+use Rattle.std.specs.Prelude.{ℕ, ◌-◌, Bool, cond, List, [], ◌∷◌, ◌++◌, map, length, ◌≢◌, slice_index}
 use Rattle.std.specs.List.{flat_map, AllByRecursion as All}
 
 -- a line's characters, and whether a CR stands before its LF

@@ -1,4 +1,4 @@
-use Rattle.std.proofs.Common.{◌≡◌, ◌+◌, ◌*◌, sym, ◌∙◌, arith}
+use Rattle.std.proofs.Common.{sym, arith}
 use Rattle.hexline.proofs.Pairs.{get_or_pairs, get_or_pairs_past}
 use Rattle.hexline.proofs.digits.byte_at.Goals as goal
 

@@ -1,6 +1,5 @@
-use Rattle.std.proofs.Common.{◌≡◌, sum, arith, rules}
+use Rattle.std.proofs.Common.{arith, rules}
 use Rattle.std.proofs.lemmas.List.{take_rest}
-use Rattle.hexline.specs.Digits.{pairs}
 use Rattle.hexline.proofs.Pairs.{sum_more, sum_whole}
 use Rattle.hexline.proofs.digits.sum_of_pairs.Goals as goal
 

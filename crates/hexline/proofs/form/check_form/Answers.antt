@@ -1,8 +1,7 @@
-use Rattle.std.proofs.Common.{◌≡◌, ap, ◌∙◌, rules}
+use Rattle.std.proofs.Common.{ap, rules}
 use Rattle.std.proofs.lemmas.List.{take_rest}
 use Rattle.checksum.specs.Sums.{sum256}
 use Rattle.hexline.specs.Digits.{pairs}
-use Rattle.hexline.specs.Records.{bytes_on}
 use Rattle.hexline.proofs.form.check_form.Goals as goal
 
 pub returns-then-sum_of_pairs-ne-WHOLE_SUM : goal.returns-then-sum_of_pairs-ne-WHOLE_SUM

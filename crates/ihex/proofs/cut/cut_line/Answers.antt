@@ -1,4 +1,4 @@
-use Rattle.std.proofs.Common.{◌≡◌, ◌-◌, length, take, drop, arith, rules}
+use Rattle.std.proofs.Common.{◌-◌, drop, arith, rules}
 use Rattle.std.proofs.lemmas.List.{length-take, length-drop}
 use Rattle.ihex.proofs.Cuts.{line_last, line_cr, line_feed}
 use Rattle.ihex.proofs.cut.cut_line.Goals as goal

@@ -1,5 +1,4 @@
-use Rattle.std.proofs.Common.{◌≡◌, Err, sym, ap, ◌∙◌, arith, rules}
-use Rattle.std.proofs.lemmas.Result.{err_from_is_err_and, IfOk-at_ok}
+use Rattle.std.proofs.Common.{arith, rules}
 use Rattle.ihex.specs.Reads.{text_of}
 use Rattle.ihex.proofs.reads.check_rules.Goals as goal
 

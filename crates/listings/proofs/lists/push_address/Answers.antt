@@ -1,4 +1,4 @@
-use Rattle.std.proofs.Common.{◌≡◌, ◌++◌, vec_items, sym, ap, ◌∙◌}
+use Rattle.std.proofs.Common.{◌++◌, vec_items, sym, ap, ◌∙◌}
 use Rattle.listings.specs.Outputs.{command_string}
 use Rattle.listings.proofs.Laying.{address_known, address_sent}
 use Rattle.listings.proofs.lists.push_address.Goals as goal

@@ -1,4 +1,4 @@
-use Rattle.std.proofs.Common.{◌≡◌, ◌-◌, ◌++◌, take, sym, ap, ◌∙◌, arith, rules}
+use Rattle.std.proofs.Common.{◌≡◌, ◌-◌, take, sym, ap, ◌∙◌, arith, rules}
 use Rattle.bootloader.specs.Commands.{meaning}
 use Rattle.listings.proofs.Strings.{string_front}
 use Rattle.listings.proofs.lists.push_command.Goals as goal

@@ -1,4 +1,4 @@
-use Rattle.std.proofs.Common.{◌≡◌, ◌++◌, vec_items, sym, ap, ◌∙◌}
+use Rattle.std.proofs.Common.{◌++◌, vec_items, ap, ◌∙◌}
 use Rattle.ihex.specs.Frames.{frames_of}
 use Rattle.ihex.specs.Patches.{text_in}
 use Rattle.bootloader.specs.Commands.{meaning}

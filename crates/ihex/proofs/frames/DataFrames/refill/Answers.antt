@@ -1,9 +1,9 @@
-use Rattle.std.proofs.Common.{◌≡◌, ◌++◌, sym, ap, ◌∙◌, arith}
+use Rattle.std.proofs.Common.{◌++◌, sym, ap, ◌∙◌, arith}
 use Rattle.std.proofs.lemmas.Bool.{false≢true}
 use Rattle.std.specs.List.{flat_map}
 use Rattle.hexline.specs.Digits.{pairs}
 use Rattle.ihex.specs.Frames.{chunks_of, line_chunks, numbered}
-use Rattle.ihex.specs.Walks.{lines_left, frames_left}
+use Rattle.ihex.specs.Walks.{lines_left}
 use Rattle.ihex.proofs.Chunked.{line_over, numbered_none}
 use Rattle.ihex.proofs.frames.DataFrames.refill.Goals as goal
 

@@ -1,4 +1,4 @@
-use Rattle.std.proofs.Common.{◌≡◌, false, fold, sym, ap, ◌∙◌, rules}
+use Rattle.std.proofs.Common.{false, fold, sym, ap, ◌∙◌, rules}
 use Rattle.ihex.specs.Named.{reaches_next}
 use Rattle.ihex.specs.Walks.{said_data, lines_left}
 use Rattle.ihex.proofs.Reaching.{reaches_here, reaches_not}
