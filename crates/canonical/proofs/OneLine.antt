@@ -4,7 +4,7 @@ use Rattle.std.proofs.ByRecursion.{All-push}
 use Rattle.std.proofs.lemmas.List.{length_push}
 use Rattle.std.proofs.lemmas.List.Sums.{sum_by_push}
 use Rattle.std.proofs.lemmas.Bool.{le-ltb, eq-eqb, or_from, not_from_true}
-use Rattle.std.specs.List.{flat_map, AllByRecursion as All}
+use Rattle.std.specs.List.{flat_map, AllByRecursion}
 use Rattle.checksum.specs.Sums.{sum256}
 use Rattle.hexline.specs.Digits.{pairs}
 use Rattle.hexline.specs.Records.{bytes_on, count_on, address_on, type_on, data_digits, data_on, stray_on, lacks_colon, has_stray, lacks_digits, sums_wrong}
@@ -22,7 +22,7 @@ check_sums : (bytes : List ℕ) → sum256 (bytes ++ (check_byte bytes ∷ [])) 
 check_sums bytes = let e = sum_by_push (λ b. b) bytes (check_byte bytes) in omega arith
 
 -- every character is at or above '0'
-pub chars_high : (l : CanonicalLine) → All (λ c. 48 ≤ c) (line_chars l)
+pub chars_high : (l : CanonicalLine) → AllByRecursion (λ c. 48 ≤ c) (line_chars l)
 unfolding line_chars
 chars_high l = (omega arith, digits_high (record_bytes l))
 

@@ -2,7 +2,7 @@
 use Rattle.std.proofs.Common.{◌≡◌, ℕ, ◌+◌, ◌/◌, ◌<◌, ◌≤◌, Bool, true, false, ◌||◌, ltb, ◌⊎◌, List, [], ◌∷◌, ◌++◌, map, length, Ok, Result, sym, refl, ap, ◌∙◌, inl, inr, arith}
 use Rattle.std.proofs.lemmas.List.{length-append}
 use Rattle.std.proofs.lemmas.Bool.{le-ltb, lt-ltb, or_left, or_right, cases_lt}
-use Rattle.std.specs.List.{flat_map, AllByRecursion as All}
+use Rattle.std.specs.List.{flat_map, AllByRecursion}
 use Rattle.checksum.specs.Outcomes.{and_then}
 use Rattle.hexline.specs.declared.fault.TextFault.{TextFault}
 use Rattle.hexline.specs.Faults.{decided}
@@ -86,7 +86,7 @@ names_on names d ds (inr some) =
       | inr none ↦ inr (omega (arith, length-append d.bytes (all_bytes ds)))
     ]
 
-later_kept : (ds : List DataSpec) (names : Bool) (top line place n p : ℕ) → All Holds ds → Ascending top ds → Names names ds → Kept (kept_from (under names top line place) (placed_lines n p (later_lines ds)))
+later_kept : (ds : List DataSpec) (names : Bool) (top line place n p : ℕ) → AllByRecursion Holds ds → Ascending top ds → Names names ds → Kept (kept_from (under names top line place) (placed_lines n p (later_lines ds)))
 unfolding placed_lines
 later_kept [] names top line place n p hs up some =
     let s = under names top line place in
@@ -100,7 +100,7 @@ later_kept (d ∷ ds) names top line place n p hs up some =
     (rest.0, kept_on (under names top line place) (under more (end_of d) n p) (line_at n p (line_chars (data_line d))) (placed_lines (n + 1) after (later_lines ds)) (data_step n p d hs.0 names top line place up.0) ∙ rest.1, rest.2, rest.3)
 
 -- the later lines' data, in order
-later_data : (ds : List DataSpec) (n p : ℕ) → All Holds ds → map data_spec (flat_map data_in (placed_lines n p (later_lines ds))) ≡ ds
+later_data : (ds : List DataSpec) (n p : ℕ) → AllByRecursion Holds ds → map data_spec (flat_map data_in (placed_lines n p (later_lines ds))) ≡ ds
 unfolding placed_lines
 later_data [] n p hs = ap (map data_spec) (walk_skips n p (line_chars end_line) [] (λ e. omega (arith, type_on_lem end_line end_holds)))
 later_data (d ∷ ds) n p hs =

@@ -2,7 +2,7 @@
 use Rattle.std.proofs.Common.{◌≡◌, ℕ, ◌+◌, ◌-◌, ◌*◌, ◌/◌, ◌%◌, ◌<◌, ◌≤◌, true, false, ltb, leb, List, [], ◌∷◌, ◌++◌, length, take, Some, unwrap_or, refl, ap, ◌∙◌, inl, inr, arith}
 use Rattle.std.proofs.lemmas.List.{take_at}
 use Rattle.std.proofs.lemmas.Bool.{lt-ltb, le-ltb, le-leb, lt-leb, and_from, and_right, cond_both, cases_lt}
-use Rattle.std.specs.List.{flat_map, prefix_len, AllByRecursion as All}
+use Rattle.std.specs.List.{flat_map, prefix_len, AllByRecursion}
 use Rattle.hexline.specs.Digits.{within, digit_of, is_digit, pair_value, pairs}
 use Rattle.checksum.specs.Capitals.{capital}
 use Rattle.canonical.specs.Canonical.{two_digits}
@@ -35,9 +35,9 @@ unfolding capital
 capital_high v = cond_both (ltb v 10) (48 + v) (55 + v) (λ c. 48 ≤ c) (λ _. omega arith) (λ _. omega arith)
 
 abbrev pub Bytes : List ℕ → Type 0
-Bytes bs = All (λ b. b < 256) bs
+Bytes bs = AllByRecursion (λ b. b < 256) bs
 
-pub digits_high : (bs : List ℕ) → All (λ c. 48 ≤ c) (flat_map two_digits bs)
+pub digits_high : (bs : List ℕ) → AllByRecursion (λ c. 48 ≤ c) (flat_map two_digits bs)
 digits_high [] = tt
 digits_high (b ∷ bs) = (capital_high (b / 16), (capital_high (b % 16), digits_high bs))
 

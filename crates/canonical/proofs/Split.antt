@@ -3,7 +3,7 @@ use Rattle.std.proofs.Common.{◌≡◌, ℕ, suc, ◌+◌, ◌-◌, ◌<◌, �
 use Rattle.std.proofs.ByRecursion.{All-get_or}
 use Rattle.std.proofs.lemmas.List.{append_assoc, length-append, length_push, get_or_append_left, get_or_at, take_at, drop_at}
 use Rattle.std.proofs.lemmas.Bool.{ne_eqb}
-use Rattle.std.specs.List.{AllByRecursion as All}
+use Rattle.std.specs.List.{AllByRecursion}
 use Rattle.ihex.specs.Texts.{TextLine, stretches, trimmed, placed, lines_of}
 use Rattle.ihex.proofs.Cuts.{stretch, line_at, no_stretch, first_cut}
 use Rattle.canonical.specs.Canonical.{CanonicalLine, line_chars, line_text, lines_text}
@@ -15,7 +15,7 @@ placed_lines n p [] = []
 placed_lines n p (l ∷ ls) = line_at n p (line_chars l) ∷ placed_lines (n + 1) (p + length (line_text l)) ls
 
 -- characters at or above '0', with an LF after them, are a stretch
-module _ (cs rest : List ℕ) (high : All (λ c. 48 ≤ c) cs) where
+module _ (cs rest : List ℕ) (high : AllByRecursion (λ c. 48 ≤ c) cs) where
   stretch_first : stretches ((cs ++ (10 ∷ [])) ++ rest) ≡ stretch cs true ∷ stretches rest
   stretch_first =
       rw (append_assoc cs (10 ∷ []) rest)

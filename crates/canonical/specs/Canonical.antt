@@ -1,6 +1,6 @@
 -- Texts in canonical form, and that they are read back. Assumes nothing.
 use Rattle.std.specs.Prelude.{◌≡◌, ℕ, ◌+◌, ◌-◌, ◌/◌, ◌%◌, ◌<◌, ◌≤◌, List, [], ◌∷◌, ◌++◌, map, length, Ok}
-use Rattle.std.specs.List.{flat_map, AllByRecursion as All}
+use Rattle.std.specs.List.{flat_map, AllByRecursion}
 use Rattle.checksum.specs.Capitals.{capital}
 use Rattle.checksum.specs.Sums.{sum256}
 use Rattle.ihex.specs.Reads.{longest_text, text_of}
@@ -66,7 +66,7 @@ end_of d = d.address + length d.bytes
 
 -- what a data line can hold; one without bytes must have an address of 16 bits too
 pub record Holds (d : DataSpec) : Type 0 where
-  pub each : All (λ b. b < 256) d.bytes
+  pub each : AllByRecursion (λ b. b < 256) d.bytes
   pub few : length d.bytes ≤ 255
   pub starts : d.address < 65536
   pub ends : end_of d ≤ 65536
@@ -78,7 +78,7 @@ Ascending top (d ∷ ds) = (top ≤ d.address) × Ascending (end_of d) ds
 
 -- what a patch must keep for its canonical text to be accepted
 pub record Canonical (ds : List DataSpec) : Type 0 where
-  pub lines : All Holds ds
+  pub lines : AllByRecursion Holds ds
   pub ascending : Ascending 0 ds
   -- at least one line has a byte
   pub names : 0 < length (flat_map (λ d. d.bytes) ds)

@@ -1,6 +1,6 @@
 -- Rules, of which the first that is broken decides. Assumes nothing.
 use Rattle.std.proofs.Common.{◌≡◌, ℕ, true, false, cond, List, [], ◌∷◌, ◌++◌, Ok, Err, refl, arith}
-use Rattle.std.specs.List.{AllByRecursion as All}
+use Rattle.std.specs.List.{AllByRecursion}
 use Rattle.checksum.specs.Outcomes.{and_then}
 use Rattle.hexline.specs.declared.fault.TextFault.{TextFault}
 use Rattle.hexline.specs.Faults.{Rule, decided}
@@ -24,10 +24,10 @@ decided_err (r ∷ rs) x y f h =
     elim r.broken as (λ b. cond b (Err r.fault) (decided rs x) ≡ Err f → cond b (Err r.fault) (decided rs y) ≡ Err f) [ true ↦ (λ k. cc) | false ↦ decided_err rs x y f ] h
 
 -- where a value comes, every rule is kept
-pub decided_kept : {X : Type 0} (rs : List Rule) (x y : X) → decided rs x ≡ Ok y → All (λ r. r.broken ≡ false) rs
+pub decided_kept : {X : Type 0} (rs : List Rule) (x y : X) → decided rs x ≡ Ok y → AllByRecursion (λ r. r.broken ≡ false) rs
 decided_kept [] x y h = tt
 decided_kept (r ∷ rs) x y h =
-    elim r.broken as (λ b. cond b (Err r.fault) (decided rs x) ≡ Ok y → (b ≡ false) × All (λ q. q.broken ≡ false) rs) [ true ↦ (λ k. let z : ◌≡◌ {A = ℕ} 0 1 = cc in absurd (omega arith)) | false ↦ (λ k. (refl, decided_kept rs x y k)) ] h
+    elim r.broken as (λ b. cond b (Err r.fault) (decided rs x) ≡ Ok y → (b ≡ false) × AllByRecursion (λ q. q.broken ≡ false) rs) [ true ↦ (λ k. let z : ◌≡◌ {A = ℕ} 0 1 = cc in absurd (omega arith)) | false ↦ (λ k. (refl, decided_kept rs x y k)) ] h
 
 -- some rules kept, the others decide
 pub decided_past : {X Y : Type 0} (rs qs : List Rule) (x : X) (y v : Y) → decided rs y ≡ Ok v → decided (rs ++ qs) x ≡ decided qs x

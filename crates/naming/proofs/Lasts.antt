@@ -1,7 +1,7 @@
 -- The last line that names an address. Assumes nothing.
 use Rattle.std.proofs.Common.{◌≡◌, ℕ, ◌+◌, ◌-◌, ◌*◌, ◌/◌, ◌<◌, cond, ltb, leb, ◌⊎◌, List, [], ◌∷◌, ◌++◌, length, get_or, Some, None, fold, Option, sym, refl, ap, ◌∙◌, inl, inr, ⊎_elim, arith}
 use Rattle.std.proofs.lemmas.Bool.{le-leb, lt-leb, lt-ltb, le-ltb, and_from, and_left, and_right, cases_lt}
-use Rattle.std.specs.List.{AllByRecursion as All}
+use Rattle.std.specs.List.{AllByRecursion}
 use Rattle.checksum.proofs.Joins.{folded_append}
 use Rattle.hexline.specs.Digits.{pair_value}
 use Rattle.hexline.proofs.Pairs.{get_or_pairs, length_pairs}
@@ -40,13 +40,13 @@ module _ (a : ℕ) where
     place : ds ≡ before ++ (line ∷ after)
     here : Names line a
     byte : b ≡ get_or (bytes_in line) (a - line.address) 0
-    last : All (λ d. Names d a → ⊥) after
+    last : AllByRecursion (λ d. Names d a → ⊥) after
 
-  stays : (ds : List DataIs) (o : Option ℕ) → All (λ d. Names d a → ⊥) ds → fold (named_next a) o ds ≡ o
+  stays : (ds : List DataIs) (o : Option ℕ) → AllByRecursion (λ d. Names d a → ⊥) ds → fold (named_next a) o ds ≡ o
   stays [] o none = refl
   stays (d ∷ ds) o none = ap (λ p. fold (named_next a) (held o p) ds) (named_not d none.0) ∙ stays ds o none.1
 
-  found : (ds : List DataIs) (o : Option ℕ) (b : ℕ) → fold (named_next a) o ds ≡ Some b → ((o ≡ Some b) × All (λ d. Names d a → ⊥) ds) ⊎ HoldsIn ds b
+  found : (ds : List DataIs) (o : Option ℕ) (b : ℕ) → fold (named_next a) o ds ≡ Some b → ((o ≡ Some b) × AllByRecursion (λ d. Names d a → ⊥) ds) ⊎ HoldsIn ds b
   found [] o b e = inl (e, tt)
   found (d ∷ ds) o b e =
       elim (found ds (named_next a o d) b e) [
@@ -57,13 +57,13 @@ module _ (a : ℕ) where
         | inr h ↦ inr (record { before = d ∷ h.before; line = h.line; after = h.after; place = ap (λ xs. d ∷ xs) h.place; here = h.here; byte = h.byte; last = h.last })
       ]
 
-  held_in : (before : List DataIs) (line : DataIs) (after : List DataIs) (o : Option ℕ) → Names line a → All (λ d. Names d a → ⊥) after → fold (named_next a) o (before ++ (line ∷ after)) ≡ Some (get_or (bytes_in line) (a - line.address) 0)
+  held_in : (before : List DataIs) (line : DataIs) (after : List DataIs) (o : Option ℕ) → Names line a → AllByRecursion (λ d. Names d a → ⊥) after → fold (named_next a) o (before ++ (line ∷ after)) ≡ Some (get_or (bytes_in line) (a - line.address) 0)
   held_in before line after o here last =
       folded_append (named_next a) o before (line ∷ after)
       ∙ ap (λ p. fold (named_next a) (held (fold (named_next a) o before) p) after) (named_here line here)
       ∙ stays after (Some (get_or (bytes_in line) (a - line.address) 0)) last
 
-  free_in : (ds : List DataIs) (o : Option ℕ) → fold (named_next a) o ds ≡ None → (o ≡ None) × All (λ d. Names d a → ⊥) ds
+  free_in : (ds : List DataIs) (o : Option ℕ) → fold (named_next a) o ds ≡ None → (o ≡ None) × AllByRecursion (λ d. Names d a → ⊥) ds
   free_in [] o e = (e, tt)
   free_in (d ∷ ds) o e =
       let rest = free_in ds (named_next a o d) e in

@@ -1,7 +1,7 @@
 -- Whether a text names a byte at or above a window's end. Assumes nothing.
 use Rattle.std.proofs.Common.{◌≡◌, ℕ, ◌+◌, ◌-◌, ◌≤◌, Bool, true, false, ◌&&◌, ltb, List, [], ◌∷◌, length, Some, None, fold, sym, refl, ◌∙◌, arith}
 use Rattle.std.proofs.lemmas.Bool.{true≢false, ltb-true, lt-ltb, and_parts, and_from}
-use Rattle.std.specs.List.{AllByRecursion as All}
+use Rattle.std.specs.List.{AllByRecursion}
 use Rattle.hexline.proofs.Pairs.{length_pairs}
 use Rattle.ihex.specs.Named.{DataIs, bytes_in, data_lines, named, reaches_next}
 use Rattle.ihex.proofs.Reaching.{reached}
@@ -18,19 +18,19 @@ none_past w a d up e n =
     let long = length_pairs d.digits in
     true≢false (sym (and_from (ltb 0 (length (bytes_in d))) (ltb w (d.address + length (bytes_in d))) (lt-ltb 0 (length (bytes_in d)) (omega (arith, n.0, n.1))) (lt-ltb w (d.address + length (bytes_in d)) (omega (arith, n.1)))) ∙ e)
 
-all_none : (w a : ℕ) (ds : List DataIs) → w ≤ a → fold (reaches_next w) false ds ≡ false → All (λ d. Names d a → ⊥) ds
+all_none : (w a : ℕ) (ds : List DataIs) → w ≤ a → fold (reaches_next w) false ds ≡ false → AllByRecursion (λ d. Names d a → ⊥) ds
 all_none w a [] up e = tt
 all_none w a (d ∷ ds) up e =
-    elim (past w d) as (λ b. past w d ≡ b → fold (reaches_next w) b ds ≡ false → All (λ c. Names c a → ⊥) (d ∷ ds)) [
+    elim (past w d) as (λ b. past w d ≡ b → fold (reaches_next w) b ds ≡ false → AllByRecursion (λ c. Names c a → ⊥) (d ∷ ds)) [
       | true ↦ (λ _ k. absurd (true≢false (sym (reached w ds) ∙ k)))
       | false ↦ (λ i k. (none_past w a d up i, all_none w a ds up k))
     ] refl e
 
 -- where they reach it, some line names an address there
-some_past : (w : ℕ) (ds : List DataIs) → fold (reaches_next w) false ds ≡ true → (a : ℕ) × (w ≤ a) × (All (λ d. Names d a → ⊥) ds → ⊥)
+some_past : (w : ℕ) (ds : List DataIs) → fold (reaches_next w) false ds ≡ true → (a : ℕ) × (w ≤ a) × (AllByRecursion (λ d. Names d a → ⊥) ds → ⊥)
 some_past w [] e = absurd (true≢false (sym e))
 some_past w (d ∷ ds) e =
-    elim (past w d) as (λ b. past w d ≡ b → fold (reaches_next w) b ds ≡ true → (a : ℕ) × (w ≤ a) × (All (λ c. Names c a → ⊥) (d ∷ ds) → ⊥)) [
+    elim (past w d) as (λ b. past w d ≡ b → fold (reaches_next w) b ds ≡ true → (a : ℕ) × (w ≤ a) × (AllByRecursion (λ c. Names c a → ⊥) (d ∷ ds) → ⊥)) [
       | true ↦ (λ i _.
           let p = and_parts (ltb 0 (length (bytes_in d))) (ltb w (d.address + length (bytes_in d))) i in
           let some = ltb-true 0 (length (bytes_in d)) p.0 in
@@ -40,7 +40,7 @@ some_past w (d ∷ ds) e =
       | false ↦ (λ _ k. let rest = some_past w ds k in (rest.0, rest.1, λ none. rest.2 none.1))
     ] refl e
 
-named_there : (text : List ℕ) (a : ℕ) → (All (λ d. Names d a → ⊥) (data_lines text) → ⊥) → (b : ℕ) × (named text a ≡ Some b)
+named_there : (text : List ℕ) (a : ℕ) → (AllByRecursion (λ d. Names d a → ⊥) (data_lines text) → ⊥) → (b : ℕ) × (named text a ≡ Some b)
 named_there text a some =
     elim (named text a) as (λ o. named text a ≡ o → (b : ℕ) × (named text a ≡ Some b)) [
       | Some b ↦ (λ e. (b, e))

@@ -1,6 +1,6 @@
 -- The byte that a text names at an address, and the bytes that its frames write. Assumes nothing.
 use Rattle.std.specs.Prelude.{◌≡◌, ℕ, ◌+◌, ◌*◌, ◌/◌, ◌<◌, ◌≤◌, true, false, cond, List, [], ◌∷◌, ◌++◌, length, Some, None, fold, Option, ◌==◌, slice_index}
-use Rattle.std.specs.List.{flat_map, AllByRecursion as All}
+use Rattle.std.specs.List.{flat_map, AllByRecursion}
 use Rattle.hexline.specs.Digits.{pair_value}
 use Rattle.ihex.specs.Reads.{accepted}
 use Rattle.ihex.specs.Named.{DataIs, bytes_in, data_lines, named, reaches}
@@ -20,14 +20,14 @@ pub record Holds (text : List ℕ) (a b : ℕ) : Type 0 where
   pub within : pair < length line.digits / 2
   pub address : a ≡ line.address + pair
   pub byte : b ≡ pair_value (slice_index line.digits (2 * pair)) (slice_index line.digits (2 * pair + 1))
-  pub last : All (λ d. Names d a → ⊥) after
+  pub last : AllByRecursion (λ d. Names d a → ⊥) after
 
 -- the byte named is that of the last line that names the address, and none is named where no line does
 pub record ByLast (text : List ℕ) : Type 0 where
   pub holds : (a b : ℕ) → named text a ≡ Some b → Holds text a b
   pub held : (a b : ℕ) → Holds text a b → named text a ≡ Some b
-  pub free : (a : ℕ) → named text a ≡ None → All (λ d. Names d a → ⊥) (data_lines text)
-  pub freed : (a : ℕ) → All (λ d. Names d a → ⊥) (data_lines text) → named text a ≡ None
+  pub free : (a : ℕ) → named text a ≡ None → AllByRecursion (λ d. Names d a → ⊥) (data_lines text)
+  pub freed : (a : ℕ) → AllByRecursion (λ d. Names d a → ⊥) (data_lines text) → named text a ≡ None
 
 -- of an accepted text, no two lines name one address
 abbrev pub AtMostOnce : List ℕ → Type 0

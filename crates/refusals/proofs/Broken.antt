@@ -1,7 +1,7 @@
 -- Which rules of a list are broken, and which one decides. Assumes nothing.
 use Rattle.std.proofs.Common.{◌≡◌, ℕ, ◌<◌, ◌≤◌, true, false, cond, ◌⊎◌, List, [], ◌∷◌, ◌++◌, Ok, Err, sym, refl, ap, ◌∙◌, subst, inl, inr, arith}
 use Rattle.std.proofs.lemmas.Bool.{true≢false}
-use Rattle.std.specs.List.{AllByRecursion as All}
+use Rattle.std.specs.List.{AllByRecursion}
 use Rattle.hexline.specs.declared.fault.TextFault.{TextFault}
 use Rattle.hexline.specs.Faults.{Rule, number_of, decided}
 
@@ -13,14 +13,14 @@ Broken (r ∷ rs) g = ((r.broken ≡ true) × (r.fault ≡ g)) ⊎ Broken rs g
 -- the rules stand in the order of their numbers
 abbrev pub Ascends : List Rule → Type 0
 Ascends [] = Unit {0}
-Ascends (r ∷ rs) = All (λ q. number_of r.fault < number_of q.fault) rs × Ascends rs
+Ascends (r ∷ rs) = AllByRecursion (λ q. number_of r.fault < number_of q.fault) rs × Ascends rs
 
 -- each number above the one before it
 abbrev pub Chain : ℕ → List Rule → Type 0
 Chain n [] = Unit {0}
 Chain n (r ∷ rs) = (n < number_of r.fault) × Chain (number_of r.fault) rs
 
-chain_above : (n m : ℕ) (rs : List Rule) → n ≤ m → Chain m rs → All (λ q. n < number_of q.fault) rs
+chain_above : (n m : ℕ) (rs : List Rule) → n ≤ m → Chain m rs → AllByRecursion (λ q. n < number_of q.fault) rs
 chain_above n m [] le c = tt
 chain_above n m (r ∷ rs) le c = (omega (arith, c.0), chain_above n (number_of r.fault) rs (omega (arith, c.0)) c.1)
 
@@ -42,7 +42,7 @@ broken_either [] qs g b = inr b
 broken_either (r ∷ rs) qs g (inl b) = inl (inl b)
 broken_either (r ∷ rs) qs g (inr b) = elim (broken_either rs qs g b) [ inl x ↦ inl (inr x) | inr x ↦ inr x ]
 
-broken_above : (n : ℕ) (rs : List Rule) (g : TextFault) → All (λ q. n < number_of q.fault) rs → Broken rs g → n < number_of g
+broken_above : (n : ℕ) (rs : List Rule) (g : TextFault) → AllByRecursion (λ q. n < number_of q.fault) rs → Broken rs g → n < number_of g
 broken_above n [] g above b = absurd b
 broken_above n (r ∷ rs) g above (inl b) = subst (λ f. n < number_of f) b.1 above.0
 broken_above n (r ∷ rs) g above (inr b) = broken_above n rs g above.1 b

@@ -2,7 +2,7 @@
 use Rattle.std.proofs.Common.{◌≡◌, ℕ, ◌+◌, ◌-◌, ◌*◌, ◌/◌, ◌<◌, ◌≤◌, true, false, cond, ◌&&◌, ltb, leb, List, [], ◌∷◌, ◌++◌, length, get_or, drop, Some, None, fold, Option, sym, refl, ap, ◌∙◌, ⊎_elim, arith}
 use Rattle.std.proofs.lemmas.List.{length-take}
 use Rattle.std.proofs.lemmas.Bool.{true≢false, and_parts, and_from, and_left, and_right, le-leb, lt-leb, lt-ltb, le-ltb, ltb-true, ltb-false, cases_lt}
-use Rattle.std.specs.List.{flat_map, AllByRecursion as All}
+use Rattle.std.specs.List.{flat_map, AllByRecursion}
 use Rattle.checksum.proofs.Joins.{folded_append}
 use Rattle.hexline.specs.Records.{count_on, address_on, data_digits}
 use Rattle.hexline.proofs.Pairs.{length_pairs, pairs_none}
@@ -60,7 +60,7 @@ none_named (l ∷ ls) e a o =
       | false ↦ (λ i k. folded_append (named_next a) o (data_in l) (flat_map data_in ls) ∙ ap (λ p. fold (named_next a) p (flat_map data_in ls)) (line_none a o l i) ∙ none_named ls k a o)
     ] refl e
 
-pub some_named : (ls : List TextLine) → All Counted ls → fold names_next false ls ≡ true → (o : Option ℕ) → (a : ℕ) × (b : ℕ) × (fold (named_next a) o (flat_map data_in ls) ≡ Some b)
+pub some_named : (ls : List TextLine) → AllByRecursion Counted ls → fold names_next false ls ≡ true → (o : Option ℕ) → (a : ℕ) × (b : ℕ) × (fold (named_next a) o (flat_map data_in ls) ≡ Some b)
 some_named [] counted e o = absurd (true≢false (sym e))
 some_named (l ∷ ls) counted e o =
     let flag = is_data l && ltb 0 (count_on l.chars) in

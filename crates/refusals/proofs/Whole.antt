@@ -3,7 +3,7 @@ use Rattle.std.proofs.Common.{◌≡◌, ℕ, ◌+◌, ◌<◌, ◌≤◌, true,
 use Rattle.std.proofs.ByRecursion.{All-push}
 use Rattle.std.proofs.lemmas.List.Sums.{fold_push}
 use Rattle.std.proofs.lemmas.Bool.{true≢false, eqb-true, eqb-false, eq-eqb, or_right, lt-ltb, le-ltb, cases_lt, cases_Bool}
-use Rattle.std.specs.List.{AllByRecursion as All}
+use Rattle.std.specs.List.{AllByRecursion}
 use Rattle.checksum.specs.Outcomes.{and_then}
 use Rattle.hexline.specs.declared.fault.TextFault.{TextFault}
 use Rattle.hexline.specs.declared.fault.TextFault.TheVariants.{TooLong, WrongLength, NoEnd, AfterEnd, NothingNamed}
@@ -45,7 +45,7 @@ pub line_count : (text : List ℕ) → (seen_after (lines_of text)).line ≡ len
 line_count text = count_from nothing_seen 1 0 (stretches text) refl ∙ omega arith
 
 -- the last of some lines
-all_last : {X : Type 0} (P : X → Type 0) (xs : List X) (x : X) → All P (xs ++ (x ∷ [])) → P x
+all_last : {X : Type 0} (P : X → Type 0) (xs : List X) (x : X) → AllByRecursion P (xs ++ (x ∷ [])) → P x
 all_last P [] x all = all.0
 all_last P (y ∷ xs) x all = all_last P xs x all.1
 
@@ -71,12 +71,12 @@ end_last earlier (l ∷ ls) none clean e =
     ] refl e
 
 -- clean lines have the data that their counts say
-pub clean_counted : (earlier ls : List TextLine) → Clean earlier ls → NoneOf 1 earlier → fold ends_next false ls ≡ true → All Counted ls
+pub clean_counted : (earlier ls : List TextLine) → Clean earlier ls → NoneOf 1 earlier → fold ends_next false ls ≡ true → AllByRecursion Counted ls
 clean_counted earlier [] clean none e = tt
 clean_counted earlier (l ∷ ls) clean none e = (
   counted,
-  elim (eqb (type_on l.chars) 1) as (λ b. eqb (type_on l.chars) 1 ≡ b → fold ends_next b ls ≡ true → All Counted ls) [
-    | true ↦ (λ i _. subst (All Counted) (sym (nothing_after earlier l ls (eqb-true (type_on l.chars) 1 i) clean.1)) tt)
+  elim (eqb (type_on l.chars) 1) as (λ b. eqb (type_on l.chars) 1 ≡ b → fold ends_next b ls ≡ true → AllByRecursion Counted ls) [
+    | true ↦ (λ i _. subst (AllByRecursion Counted) (sym (nothing_after earlier l ls (eqb-true (type_on l.chars) 1 i) clean.1)) tt)
     | false ↦ (λ i k. clean_counted (earlier ++ (l ∷ [])) ls clean.1 (All-push (λ m. type_on m.chars ≡ 1 → ⊥) earlier l none (eqb-false (type_on l.chars) 1 i)) k)
   ] refl e,
 )
@@ -197,7 +197,7 @@ module _ (text : List ℕ) where
       ∙ ap (λ b. cond (not b) (Err (NothingNamed seen.line seen.place)) (Ok tt)) (⊎_elim (λ t. t) (λ f. absurd (some_not_none a.byte (sym a.names ∙ nothing_named f a.address))) (cases_Bool seen.names))
 
   -- an accepted text's lines have the data that their counts say
-  pub accepted_counted : Accepted text → All Counted (lines_of text)
+  pub accepted_counted : Accepted text → AllByRecursion Counted (lines_of text)
   accepted_counted a = clean_counted [] (lines_of text) a.clean tt (sym ended_is ∙ ended_last a.before a.end a.place a.type)
 
   pub exact : Exact text

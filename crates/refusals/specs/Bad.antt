@@ -1,6 +1,6 @@
 -- When a line is bad, number by number, in the format's words. Assumes nothing.
 use Rattle.std.specs.Prelude.{◌≡◌, ℕ, ◌+◌, ◌*◌, ◌<◌, ◌≤◌, ◌⊎◌, List, ◌∷◌, ◌++◌, length, ◌≢◌, slice_index}
-use Rattle.std.specs.List.{AllByRecursion as All}
+use Rattle.std.specs.List.{AllByRecursion}
 use Rattle.checksum.specs.Sums.{sum256}
 use Rattle.hexline.specs.declared.fault.TextFault.{TextFault}
 use Rattle.hexline.specs.declared.fault.TextFault.TheVariants.{TooLong, NoColon, NoDigit, WrongLength, WrongSum, UnknownType, WrongShape, WrongUpper, Backward, PastTop, NoEnd, AfterEnd, NothingNamed, RowLength}
@@ -45,7 +45,7 @@ Misshapen chars = ShapeOff 1 0 chars ⊎ (ShapeOff 4 2 chars ⊎ ShapeOff 5 4 ch
 
 -- no line has this type
 abbrev pub NoneOf : ℕ → List TextLine → Type 0
-NoneOf t ls = All (λ l. type_on l.chars ≢ t) ls
+NoneOf t ls = AllByRecursion (λ l. type_on l.chars ≢ t) ls
 
 -- the last line of a type, which says a value
 pub record LastOf (t : ℕ) (says : List ℕ → ℕ) (ls : List TextLine) (v : ℕ) : Type 0 where

@@ -3,7 +3,7 @@ use Rattle.std.proofs.Common.{◌≡◌, ℕ, ◌+◌, ◌-◌, ◌<◌, true, f
 use Rattle.std.proofs.lemmas.List.{append_assoc, length_push, get_or_push, take_at}
 use Rattle.std.proofs.lemmas.Bool.{eq-eqb, ne_eqb}
 use Rattle.std.proofs.ByRecursion.{All-push}
-use Rattle.std.specs.List.{flat_map, AllByRecursion as All}
+use Rattle.std.specs.List.{flat_map, AllByRecursion}
 use Rattle.ihex.specs.Texts.{Stretch, TextLine, on_first, stretches, trimmed, size_of, placed}
 use Rattle.ihex.proofs.Cuts.{stretch}
 use Rattle.rewriting.specs.Ended.{EndedLine, ended, written, chars_of, Unended}
@@ -58,12 +58,12 @@ some_line (y ∷ ys) h =
     ]
 
 -- characters up to an LF
-cut_clear : (xs ys : List ℕ) → All (λ c. c ≡ 10 → ⊥) xs → stretches (xs ++ (10 ∷ ys)) ≡ stretch xs true ∷ stretches ys
+cut_clear : (xs ys : List ℕ) → AllByRecursion (λ c. c ≡ 10 → ⊥) xs → stretches (xs ++ (10 ∷ ys)) ≡ stretch xs true ∷ stretches ys
 unfolding stretches
 cut_clear [] ys h = refl
 cut_clear (x ∷ xs) ys h = rw (ne_eqb x 10 h.0, cut_clear xs ys h.1)
 
-clear_push : (xs : List ℕ) → All (λ c. c ≡ 10 → ⊥) xs → All (λ c. c ≡ 10 → ⊥) (xs ++ (13 ∷ []))
+clear_push : (xs : List ℕ) → AllByRecursion (λ c. c ≡ 10 → ⊥) xs → AllByRecursion (λ c. c ≡ 10 → ⊥) (xs ++ (13 ∷ []))
 clear_push xs h = All-push (λ c. c ≡ 10 → ⊥) xs 13 h (λ e. omega arith)
 
 trim_cr : (xs : List ℕ) → trimmed (stretch (xs ++ (13 ∷ [])) true) ≡ xs
@@ -81,7 +81,7 @@ cut_line l ys h =
       | false ↦ ap (map trimmed) (cut_clear l.chars ys h.0) ∙ rw (ne_eqb _ 13 h.1)
     ])
 
-pub cut_written : (ls : List EndedLine) (ys : List ℕ) → All (λ l. Unended l.chars) ls → map trimmed (stretches (written ls ys)) ≡ chars_of ls ++ map trimmed (stretches ys)
+pub cut_written : (ls : List EndedLine) (ys : List ℕ) → AllByRecursion (λ l. Unended l.chars) ls → map trimmed (stretches (written ls ys)) ≡ chars_of ls ++ map trimmed (stretches ys)
 cut_written [] ys h = refl
 cut_written (l ∷ ls) ys h =
     ap (λ t. map trimmed (stretches t)) (append_assoc (ended l) (flat_map ended ls) ys) ∙ cut_line l (written ls ys) h.0 ∙ ap (λ css. l.chars ∷ css) (cut_written ls ys h.1)

@@ -3,7 +3,7 @@ use Rattle.std.proofs.Common.{◌≡◌, ℕ, ◌+◌, ◌-◌, ◌≤◌, Bool,
 use Rattle.std.proofs.lemmas.List.{append_assoc, map-append}
 use Rattle.std.proofs.ByRecursion.{All-weaker, All-get_or}
 use Rattle.std.proofs.lemmas.Bool.{false≢true, eqb-true, ltb-false, not-false}
-use Rattle.std.specs.List.{flat_map, prefix_len, AllByRecursion as All}
+use Rattle.std.specs.List.{flat_map, prefix_len, AllByRecursion}
 use Rattle.checksum.proofs.Joins.{joined_append}
 use Rattle.hexline.specs.declared.fault.TextFault.TheVariants.{AfterEnd}
 use Rattle.hexline.specs.Digits.{is_digit}
@@ -29,10 +29,10 @@ Inner c = (c ≡ 10 → ⊥) × (c ≡ 13 → ⊥)
 digit_inner : (c : ℕ) → is_digit c ≡ true → Inner c
 digit_inner c h = (λ e. false≢true (ap is_digit (sym e) ∙ h), λ e. false≢true (ap is_digit (sym e) ∙ h))
 
-digits_inner : (xs : List ℕ) → length xs ≤ prefix_len is_digit xs → All Inner xs
+digits_inner : (xs : List ℕ) → length xs ≤ prefix_len is_digit xs → AllByRecursion Inner xs
 digits_inner [] h = tt
 digits_inner (x ∷ xs) h =
-    elim (is_digit x) as (λ b. is_digit x ≡ b → length (x ∷ xs) ≤ cond b (1 + prefix_len is_digit xs) 0 → All Inner (x ∷ xs)) [
+    elim (is_digit x) as (λ b. is_digit x ≡ b → length (x ∷ xs) ≤ cond b (1 + prefix_len is_digit xs) 0 → AllByRecursion Inner (x ∷ xs)) [
       | true ↦ (λ e k. (digit_inner x e, digits_inner xs (omega arith)))
       | false ↦ (λ e k. absurd (omega arith))
     ] refl h
@@ -41,7 +41,7 @@ digits_inner (x ∷ xs) h =
 record_inner : (xs : List ℕ) → get_or xs 0 0 ≡ 58 → length xs ≤ 1 + prefix_len is_digit (drop 1 xs) → Unended xs
 record_inner [] colon h = absurd (omega arith)
 record_inner (x ∷ xs) colon h =
-    let inner : All Inner (x ∷ xs) = ((λ e. omega arith, λ e. omega arith), digits_inner xs (omega arith)) in
+    let inner : AllByRecursion Inner (x ∷ xs) = ((λ e. omega arith, λ e. omega arith), digits_inner xs (omega arith)) in
     (All-weaker Inner (λ c. c ≡ 10 → ⊥) (λ c k. k.0) (x ∷ xs) inner, (All-get_or Inner (x ∷ xs) (length (x ∷ xs) - 1) 0 (omega arith) inner).1)
 
 module _ (chars : List ℕ) (is : StartLine chars) where

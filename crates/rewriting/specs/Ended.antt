@@ -1,6 +1,6 @@
 -- Lines written with their ends. Assumes nothing.
 use Rattle.std.specs.Prelude.{ℕ, ◌-◌, Bool, cond, List, [], ◌∷◌, ◌++◌, map, length, ◌≢◌, slice_index}
-use Rattle.std.specs.List.{flat_map, AllByRecursion as All}
+use Rattle.std.specs.List.{flat_map, AllByRecursion}
 
 -- a line's characters, and whether a CR stands before its LF
 pub record EndedLine : Type 0 where
@@ -20,4 +20,4 @@ chars_of ls = map (λ l. l.chars) ls
 
 -- characters with no LF, and no CR as the last: a CR before the LF is then the end's own
 abbrev pub Unended : List ℕ → Type 0
-Unended chars = All (λ c. c ≢ 10) chars × (slice_index chars (length chars - 1) ≢ 13)
+Unended chars = AllByRecursion (λ c. c ≢ 10) chars × (slice_index chars (length chars - 1) ≢ 13)

@@ -1,6 +1,6 @@
 -- What may change in a text while every byte that it names stays. Assumes nothing.
 use Rattle.std.specs.Prelude.{◌≡◌, ℕ, ◌<◌, ◌≤◌, true, List, ◌∷◌, ◌++◌, length, Ok}
-use Rattle.std.specs.List.{AllByRecursion as All}
+use Rattle.std.specs.List.{AllByRecursion}
 use Rattle.hexline.specs.Lines.{start_is, line_of}
 use Rattle.ihex.specs.Reads.{longest_text, text_of, accepted}
 use Rattle.ihex.specs.Named.{named}
@@ -17,7 +17,7 @@ Keeps text other = accepted text ≡ true → length other ≤ longest_text → 
 
 -- a CR before an LF may be added or left out at any line
 abbrev pub EndsFree : Type 0
-EndsFree = (ls others : List EndedLine) (rest : List ℕ) → All (λ l. Unended l.chars) ls → chars_of others ≡ chars_of ls → Keeps (written ls rest) (written others rest)
+EndsFree = (ls others : List EndedLine) (rest : List ℕ) → AllByRecursion (λ l. Unended l.chars) ls → chars_of others ≡ chars_of ls → Keeps (written ls rest) (written others rest)
 
 -- a digit may be written in either case: the answer is the same, with the same fault, line and place
 abbrev pub CaseFree : Type 0

@@ -1,5 +1,5 @@
 use Rattle.std.proofs.Common.{◌≡◌, ◌+◌, ◌++◌, length, Some, None, vec_items, sym, ap, ◌∙◌, subst}
-use Rattle.std.specs.List.{flat_map, AllByRecursion as All}
+use Rattle.std.specs.List.{flat_map, AllByRecursion}
 use Rattle.ihex.specs.Patches.{text_in}
 use Rattle.ihex.specs.Walks.{said_frame, frames_left}
 use Rattle.ihex.proofs.Below.{FrameBelow, frames_below}
@@ -11,7 +11,7 @@ use Rattle.listings.proofs.lists.push_frames.Goals as goal
 pub loop-frame-init : goal.loop-frame-init
 loop-frame-init c =
     let left = c.data_frames-frames.ensures.left in
-    (subst (All (FrameBelow 16384)) (sym left) (frames_below 16384 (text_in c.args.patch.now) c.requires), ap (λ fs. vec_items c.args.out.now ++ flat_map command_string (writes None fs)) left)
+    (subst (AllByRecursion (FrameBelow 16384)) (sym left) (frames_below 16384 (text_in c.args.patch.now) c.requires), ap (λ fs. vec_items c.args.out.now ++ flat_map command_string (writes None fs)) left)
 
 pub loop-frame-preserved : goal.loop-frame-preserved
 loop-frame-preserved c =
@@ -20,7 +20,7 @@ loop-frame-preserved c =
     let came = c.in-Some.ensures in
     let inv = ap (λ fs. vec_items c.loop-frame.out ++ flat_map command_string (writes c.loop-frame.pointer fs)) (sym came.0) ∙ c.loop-frame.invariant.1 in
     let long : length c.data.result.now ≡ length (said_frame frame).bytes = ap length c.data.ensures in (
-      (subst (All (FrameBelow 16384)) came.0 c.loop-frame.invariant.0).1,
+      (subst (AllByRecursion (FrameBelow 16384)) came.0 c.loop-frame.invariant.0).1,
       ap (λ n. vec_items c.push_frame.new.out ++ flat_map command_string (writes (Some (frame.start + n)) rest)) long ∙ frame_laid (vec_items c.loop-frame.out) (vec_items c.push_frame.new.out) _ c.loop-frame.pointer (said_frame frame) rest c.in_ok-push_frame.ensures.pushed inv,
     )
 

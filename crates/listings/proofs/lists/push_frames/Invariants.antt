@@ -1,5 +1,5 @@
 use Rattle.std.proofs.Common.{◌≡◌, ◌++◌, length, None, vec_items}
-use Rattle.std.specs.List.{flat_map, AllByRecursion as All}
+use Rattle.std.specs.List.{flat_map, AllByRecursion}
 use Rattle.ihex.specs.Frames.{frames_of}
 use Rattle.ihex.specs.Patches.{text_in}
 use Rattle.ihex.specs.Walks.{frames_left}
@@ -9,7 +9,7 @@ use Rattle.listings.specs.Outputs.{command_string}
 use Rattle.listings.proofs.lists.push_frames.Given as goal
 
 abbrev pub invariant-loop-frame : goal.invariant-loop-frame
-invariant-loop-frame l = All (FrameBelow 16384) (frames_left l.frames) × (vec_items l.out ++ flat_map command_string (writes l.pointer (frames_left l.frames)) ≡ vec_items l.initial.out ++ flat_map command_string (writes None (frames_of (text_in l.patch))))
+invariant-loop-frame l = AllByRecursion (FrameBelow 16384) (frames_left l.frames) × (vec_items l.out ++ flat_map command_string (writes l.pointer (frames_left l.frames)) ≡ vec_items l.initial.out ++ flat_map command_string (writes None (frames_of (text_in l.patch))))
 
 abbrev pub decreases-loop-frame : goal.decreases-loop-frame
 decreases-loop-frame l = length (frames_left l.frames)
