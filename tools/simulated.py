@@ -1,4 +1,4 @@
-"""A simulated sensor, a cable and an adversary, written from docs/SENSOR.md alone, for the table of vectors."""
+"""A simulated sensor, a cable and an adversary, written from docs/SENSOR.md alone, for the cases of the links."""
 
 WINDOW = {"tmf8x0x": 16384, "tmf882x": 32768}
 APP = {"tmf8x0x": 0xC0, "tmf882x": 0x03}

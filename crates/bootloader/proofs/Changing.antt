@@ -23,7 +23,7 @@ module _ {X : Type 0} where
   refused_later true fault next h = h
   refused_later false fault next h = refl
 
--- what a well_formed_lem frame has passed
+-- what a well-formed frame has passed
 pub record Passed (frame : List ℕ) : Type 0 where
   pub long : 3 ≤ length frame
   pub size : length frame ≡ get_or frame 1 0 + 3

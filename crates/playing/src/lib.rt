@@ -1,4 +1,4 @@
-// Scripts played on a simulated sensor, perhaps over a cable: what the table of vectors asks for.
+// Scripts played on a simulated sensor, perhaps over a cable, and choices played on the adversary.
 #![tactic(auto)]
 
 mod choices;
