@@ -1,27 +1,25 @@
 -- Proof that a script can bring about whatever the sensor's meaning allows. Assumes nothing.
-use Rattle.std.proofs.Common.{◌≡◌, ℕ, zero, suc, ◌<◌, ◌≤◌, Bool, true, false, cond, ◌&&◌, eqb, leb, List, [], ◌∷◌, length, get_or, take, set, Ok, Err, Result, sym, refl, ap, ◌∙◌, inl, inr, arith, lt-ltb, le-leb, leb-true}
-use Rattle.std.proofs.lemmas.Bool.{and_parts, and_from, and_right}
-use Rattle.checksum.specs.Ranges.{within}
+use Rattle.std.proofs.Common.{◌≡◌, ℕ, ◌<◌, ◌≤◌, Bool, true, false, cond, ◌&&◌, eqb, List, [], ◌∷◌, length, get_or, take, set, Ok, Err, Result, sym, refl, ap, ◌∙◌, inl, inr, arith}
 use Rattle.bootloader.specs.declared.fault.FrameFault.{FrameFault}
 use Rattle.bootloader.specs.Commands.{CommandIs}
 use Rattle.bootloader.specs.Frames.{decode_of}
 use Rattle.bootloader.specs.Replies.{status_reply}
 use Rattle.sensor.specs.declared.enable.Enable.{Enable}
-use Rattle.sensor.specs.declared.enable.Enable.TheVariants.{Asleep, Starting, Ready, Strange}
 use Rattle.sensor.specs.declared.stage.Stage.{Stage}
 use Rattle.sensor.specs.declared.stage.Stage.TheVariants.{Asleep as asleep, Starting as starting, Loader as loader, Application as application}
-use Rattle.sensor.specs.Kinds.{KindIs, seen, enable_of}
+use Rattle.sensor.specs.Kinds.{KindIs, seen}
 use Rattle.sensor.specs.Exchanges.{Exchange, writes, reads, Answer, acknowledged, missed, filled, sized}
-use Rattle.sensor.specs.Sensors.{Sensor, is_starting, started, rested, answered, carried_out, counts, in_loader}
+use Rattle.sensor.specs.Sensors.{Sensor, is_starting, started, rested, counts, in_loader}
 use Rattle.sensor.specs.declared.registers.Asked.{Asked}
 use Rattle.sensor.specs.declared.registers.Asked.TheVariants.{Status as status_asked, Stage as enable_asked, App as app_asked, Other as other_asked}
-use Rattle.sensor.specs.Meaning.{Noisy, CutShort, Obeyed, Judged, told, Written, enable_at, app_at, AppShown, ShowsBusy, ShowsStatus, StatusShown, asked, Shown, Does, MayStart, Happens, Allowed}
+use Rattle.sensor.specs.Meaning.{Noisy, CutShort, Obeyed, Judged, told, Written, app_at, AppShown, ShowsBusy, ShowsStatus, StatusShown, asked, Shown, Does, MayStart, Happens, Allowed}
 use Rattle.adversary.specs.Choices.{Arrival, whole, one_changed, cut_short, lost, Choice, clean, four, AllBytes, ArrivalFits, Fits}
 use Rattle.adversary.specs.Sending.{changed, reason_of, refused, obeyed, judged, frame_sent, arrives}
-use Rattle.adversary.specs.Showing.{shows_busy, status_number, noisy, same, enable_shown, shown_bytes, after_shown}
-use Rattle.adversary.specs.Scripted.{started_if, effect, chosen, stepped}
+use Rattle.adversary.specs.Showing.{shows_busy, status_number, noisy, enable_shown, shown_bytes, after_shown}
+use Rattle.adversary.specs.Scripted.{started_if, effect, chosen}
 use Rattle.adversary.specs.Lawful.{Sized, asked_sized}
 use Rattle.adversary.specs.Complete.{AnswerBytes, Gives, Complete}
+use Rattle.std.proofs.lemmas.Grind.{common_steps}
 
 -- the choices that a write needs, and those that a read needs
 
@@ -33,23 +31,15 @@ abbrev reading : Bool → Bool → Bool → Arrival → Bool → ℕ → List �
 reading before later heard arrival rests busy shown =
     record { starts_before = before; starts_after = later; heard = heard; arrival = arrival; obeys = false; status = 0; working = false; rests = rests; busy = busy; shown = four shown }
 
-four_bytes : (xs : List ℕ) → AllBytes xs → AllBytes (four xs)
-four_bytes xs bytes zero = bytes 0
-four_bytes xs bytes (suc zero) = bytes 1
-four_bytes xs bytes (suc (suc zero)) = bytes 2
-four_bytes xs bytes (suc (suc (suc zero))) = bytes 3
-four_bytes xs bytes (suc (suc (suc (suc i)))) = omega arith
-
 no_bytes : AllBytes []
-no_bytes i = omega arith
+no_bytes = grind (arith, common_steps)
 
 sending_fits :
     (before later heard : Bool) (arrival : Arrival) (obeys : Bool) (status : ℕ) (working : Bool)
     → ArrivalFits arrival
     → status < 256
     → Fits (sending before later heard arrival obeys status working)
-sending_fits before later heard arrival obeys status working fits byte =
-    record { arrival = fits; status = byte; busy = omega arith; four = refl; shown = four_bytes [] no_bytes }
+sending_fits = grind (arith, common_steps)
 
 reading_fits :
     (before later heard : Bool) (arrival : Arrival) (rests : Bool) (busy : ℕ) (shown : List ℕ)
@@ -57,8 +47,7 @@ reading_fits :
     → busy < 256
     → AllBytes shown
     → Fits (reading before later heard arrival rests busy shown)
-reading_fits before later heard arrival rests busy shown fits byte bytes =
-    record { arrival = fits; status = omega arith; busy = byte; four = refl; shown = four_bytes shown bytes }
+reading_fits = grind (arith, common_steps)
 
 -- what is found for an exchange apart from a start
 record Found (before later : Bool) (k : KindIs) (s : Sensor) (e : Exchange) (answer : Answer) (after : Sensor) : Type 0 where
@@ -83,9 +72,7 @@ record Verdict (b : Bool) (k : KindIs) (s : Sensor) (got : List ℕ) (after : Se
       cond b (cond obeys (obeyed k.window c s (decode_of got)) (refused c s)) s ≡ after
 
 reason_is : (status : ℕ) → 1 ≤ status → status < 16 → reason_of status ≡ status
-reason_is status low high =
-    let high' : status ≤ 15 = omega arith in
-    ap (λ (t : Bool). cond t status 15) (and_from (leb 1 status) (leb status 15) (le-leb 1 status low) (le-leb status 15 high'))
+reason_is = grind (arith, common_steps)
 
 record Obeying (k : KindIs) (s : Sensor) (said : Result CommandIs FrameFault) (after : Sensor) : Type 0 where
   working : Bool
@@ -97,11 +84,7 @@ obeying : (k : KindIs) (s : Sensor) (said : Result CommandIs FrameFault) (after 
 obeying k s (Ok command) after h =
     record {
       working = h.working;
-      is = λ before later heard arrival.
-          ap
-          (λ (t : Bool). cond t (carried_out command h.working s) (refused (sending before later heard arrival true 0 h.working) s))
-          h.can
-          ∙ sym h.is;
+      is = λ before later heard arrival. grind (arith, common_steps);
     }
 obeying k s (Err fault) after h = absurd h
 
@@ -112,8 +95,7 @@ verdict true k s got after (inl h) =
       status = h.status;
       byte = omega (arith, h.small);
       working = h.working;
-      is = λ before later heard arrival.
-          ap (λ (n : ℕ). answered n h.working s) (reason_is h.status h.some h.small) ∙ sym h.is;
+      is = λ before later heard arrival. grind (arith, reason_is);
     }
 verdict true k s got after (inr h) =
     let o = obeying k s (decode_of got) after h in
@@ -129,28 +111,18 @@ record Way (sent got : List ℕ) (through : Bool) : Type 0 where
   is : (window : ℕ) (c : Choice) (s : Sensor) → frame_sent window c arrival s sent ≡ judged window c s got
 
 changed_is : (sent got : List ℕ) (at to : ℕ) → to < 256 → got ≡ set sent at to → changed sent at to ≡ got
-changed_is sent got at to byte is = ap (λ (t : Bool). cond t (set sent at to) sent) (lt-ltb to 256 byte) ∙ sym is
+changed_is = grind (arith, common_steps)
 
 noisy_way : (sent got : List ℕ) → length sent ≤ 131 → Noisy sent got → Way sent got true
 noisy_way sent got short (inl e) =
-    record { arrival = whole; fits = tt; arrives_is = refl; is = λ window c s. ap (λ (g : List ℕ). judged window c s g) (sym e) }
+    record { arrival = whole; fits = tt; arrives_is = refl; is = λ window c s. cc }
 noisy_way sent got short (inr h) =
-    let at_byte : h.at < 256 = omega (arith, h.inside) in
-    record {
-      arrival = one_changed h.at h.to;
-      fits = (at_byte, h.byte);
-      arrives_is = refl;
-      is = λ window c s. ap (λ (g : List ℕ). judged window c s g) (changed_is sent got h.at h.to h.byte h.is);
-    }
+    let is = changed_is sent got h.at h.to h.byte h.is in
+    record { arrival = one_changed h.at h.to; fits = (omega (arith, h.inside), h.byte); arrives_is = refl; is = λ window c s. cc }
 
 cut_way : (sent got : List ℕ) → length sent ≤ 131 → CutShort sent got → Way sent got false
 cut_way sent got short h =
-    record {
-      arrival = cut_short h.at;
-      fits = omega (arith, h.inside);
-      arrives_is = refl;
-      is = λ window c s. ap (λ (g : List ℕ). judged window c s g) (sym h.is);
-    }
+    record { arrival = cut_short h.at; fits = omega (arith, h.inside); arrives_is = refl; is = λ window c s. cc }
 
 -- a write to register 0x08, or to another
 record WriteFound (before later b : Bool) (k : KindIs) (s : Sensor) (register : ℕ) (bytes : List ℕ) (answer : Answer) (after : Sensor) : Type 0 where
@@ -176,7 +148,7 @@ frame_arrives before later heard through k s register frame got after way taken 
       fits = sending_fits before later heard way.arrival v.obeys v.status v.working way.fits v.byte;
       starts_before_is = refl;
       starts_after_is = refl;
-      answers = ap (λ (t : Bool). cond (t && heard) acknowledged missed) way.arrives_is;
+      answers = cc;
       leaves = way.is k.window (sending before later heard way.arrival v.obeys v.status v.working) s ∙ v.is before later heard way.arrival;
     }
 
@@ -224,20 +196,10 @@ found_write before later false k s register bytes (filled got) after short h = a
 
 -- the shown bytes come from the choice
 take_four : (got : List ℕ) (count : ℕ) → length got ≡ count → count ≤ 4 → take count (four got) ≡ got
-take_four got count is short = ap (λ (n : ℕ). take n (four got)) (sym is) ∙ four_taken got (omega arith)
-  where
-    four_taken : (xs : List ℕ) → length xs ≤ 4 → take (length xs) (four xs) ≡ xs
-    four_taken [] h = refl
-    four_taken (a ∷ []) h = refl
-    four_taken (a ∷ b ∷ []) h = refl
-    four_taken (a ∷ b ∷ c ∷ []) h = refl
-    four_taken (a ∷ b ∷ c ∷ d ∷ []) h = refl
-    four_taken (a ∷ b ∷ c ∷ d ∷ e ∷ more) h = absurd (omega arith)
+take_four = grind (arith, common_steps)
 
 single : (got : List ℕ) → length got ≡ 1 → get_or got 0 0 ∷ [] ≡ got
-single [] h = absurd (omega arith)
-single (a ∷ []) h = refl
-single (a ∷ b ∷ more) h = absurd (omega arith)
+single = grind (arith, common_steps)
 
 -- how a reply is changed on the way
 record ReplyWay (sent got : List ℕ) : Type 0 where
@@ -248,8 +210,7 @@ record ReplyWay (sent got : List ℕ) : Type 0 where
 reply_way : (sent got : List ℕ) → length sent ≤ 131 → Noisy sent got → ReplyWay sent got
 reply_way sent got short (inl e) = record { arrival = whole; fits = tt; is = sym e }
 reply_way sent got short (inr h) =
-    let at_byte : h.at < 256 = omega (arith, h.inside) in
-    record { arrival = one_changed h.at h.to; fits = (at_byte, h.byte); is = changed_is sent got h.at h.to h.byte h.is }
+    record { arrival = one_changed h.at h.to; fits = (omega (arith, h.inside), h.byte); is = changed_is sent got h.at h.to h.byte h.is }
 
 record ReadFound (k : KindIs) (s : Sensor) (what : Asked) (count : ℕ) (got : List ℕ) (after : Sensor) : Type 0 where
   arrival : Arrival
@@ -290,46 +251,34 @@ elsewhere stage s count got after off is short e =
       busy = 0;
       fits = tt;
       byte = omega arith;
-      answers = λ before later.
-          let c : Choice = reading before later true whole true 0 got in
-          ap (λ (t : Bool). cond t (status_reply (status_number c s)) (take count (four got))) off ∙ take_four got count is short;
-      leaves = λ before later.
-          let c : Choice = reading before later true whole true 0 got in
-          ap (λ (t : Bool). cond t (cond (shows_busy c s) s (rested s)) s) off ∙ sym e;
+      answers = λ before later. grind (arith, take_four);
+      leaves = λ before later. grind arith;
     }
-
-busy_tested : (s : Sensor) (number : ℕ) → s.working ≡ true → 16 ≤ number → number < 256 → (s.working && (within 16 255 number && true)) ≡ true
-busy_tested s number works low high =
-    let high' : number ≤ 255 = omega arith in
-    and_from s.working (within 16 255 number && true) works
-    (and_from (within 16 255 number) true (and_from (leb 16 number) (leb number 255) (le-leb 16 number low) (le-leb number 255 high')) refl)
 
 busy_found : (s : Sensor) (count : ℕ) (got : List ℕ) (after : Sensor) → ShowsBusy s got after → StatusFound loader s count got after
 busy_found s count got after h =
     let way = reply_way (status_reply h.number) got (omega arith) h.shown in
-    let tested = busy_tested s h.number h.works h.some h.small in
     record {
       arrival = way.arrival;
       rests = false;
       busy = h.number;
       fits = way.fits;
       byte = h.small;
-      answers = λ before later. ap (λ (t : Bool). noisy way.arrival (status_reply (cond t h.number s.status))) tested ∙ way.is;
-      leaves = λ before later. ap (λ (t : Bool). cond t s (rested s)) tested ∙ sym h.is;
+      answers = λ before later. grind (arith, common_steps);
+      leaves = λ before later. grind (arith, common_steps);
     }
 
 rest_found : (s : Sensor) (count : ℕ) (got : List ℕ) (after : Sensor) → ShowsStatus s got after → StatusFound loader s count got after
 rest_found s count got after h =
     let way = reply_way (status_reply s.status) got (omega arith) h.shown in
-    let tested : (s.working && false) ≡ false = and_right s.working false refl in
     record {
       arrival = way.arrival;
       rests = true;
       busy = 0;
       fits = way.fits;
       byte = omega arith;
-      answers = λ before later. ap (λ (t : Bool). noisy way.arrival (status_reply (cond t 0 s.status))) tested ∙ way.is;
-      leaves = λ before later. ap (λ (t : Bool). cond t s (rested s)) tested ∙ sym h.is;
+      answers = λ before later. grind (arith, common_steps);
+      leaves = λ before later. grind (arith, common_steps);
     }
 
 status_found :
@@ -344,21 +293,11 @@ status_found loader s count got after is short (inl h) = busy_found s count got 
 status_found loader s count got after is short (inr h) = rest_found s count got after h
 status_found application s count got after is short e = elsewhere application s count got after refl is short e
 
-same_itself : (a : Enable) → same a a ≡ true
-same_itself Asleep = refl
-same_itself Starting = refl
-same_itself Ready = refl
-same_itself Strange = refl
-
 enable_is : (k : KindIs) (says : Enable) (value : ℕ) → seen k value ≡ says → enable_shown k says value ≡ value
-enable_is k says value e =
-    ap (λ (t : Bool). cond t value (enable_of k says)) (ap (λ (x : Enable). same x says) e ∙ same_itself says)
+enable_is = grind (arith, common_steps)
 
 app_is : (k : KindIs) (stage : Stage) (got : List ℕ) → length got ≡ 1 → AppShown k stage got → app_at k stage (get_or got 0 0) ∷ [] ≡ got
-app_is k asleep got one h = single got one
-app_is k starting got one h = single got one
-app_is k loader got one h = sym h
-app_is k application got one h = sym h
+app_is = grind (arith, common_steps)
 
 shown_found :
     (k : KindIs) (s : Sensor) (what : Asked) (count : ℕ) (got : List ℕ) (after : Sensor)
@@ -377,8 +316,7 @@ shown_found k s enable_asked count got after is short size h =
       busy = 0;
       fits = tt;
       byte = omega arith;
-      answers = λ before later.
-          ap (λ (v : ℕ). v ∷ []) (enable_is k (enable_at s.stage) (get_or got 0 0) h.1) ∙ single got (is ∙ size);
+      answers = λ before later. grind (arith, enable_is, single);
       leaves = λ before later. sym h.0;
     }
 shown_found k s app_asked count got after is short size h =
@@ -424,14 +362,14 @@ found :
     → Does k s e answer after
     → Found before later k s e answer after
 found before later k s (writes register bytes) answer after fits _ h =
-    let short = leb-true (length bytes) 131 (and_parts (leb 1 (length bytes)) (leb (length bytes) 131) fits).1 in
+    let short : length bytes ≤ 131 = grind (arith, common_steps) in
     let w = found_write before later (eqb register 0x08) k s register bytes answer after short h in
     record { choice = w.choice; fits = w.fits; starts_before_is = w.starts_before_is; starts_after_is = w.starts_after_is; answers = w.answers; leaves = w.leaves }
 found before later k s (reads register count) acknowledged after fits _ h = absurd h
 found before later k s (reads register count) missed after fits _ (inl e) = missed_read before later false k s register count after e
 found before later k s (reads register count) missed after fits _ (inr e) = missed_read before later true k s register count after e
 found before later k s (reads register count) (filled got) after fits bytes (is, h) =
-    let short = leb-true count 4 (and_parts (leb 1 count) (leb count 4) fits).1 in
+    let short : count ≤ 4 = grind (arith, common_steps) in
     let r = shown_found k s (asked register count) count got after is short (asked_sized register count) h in
     record {
       choice = reading before later true r.arrival r.rests r.busy got;
@@ -461,19 +399,7 @@ chosen_gives :
     → (chosen k c s e).answer ≡ answer
     → (chosen k c s e).next ≡ after
     → Gives k c s e answer after
-chosen_gives k c s e answer after fits answers leaves =
-    record {
-      answers = λ a at-sensor at-choice.
-          ap (λ (b : Bool). (stepped b k a e).answer) fits
-          ∙ ap (λ (x : Choice). (chosen k x a.sensor e).answer) at-choice
-          ∙ ap (λ (x : Sensor). (chosen k c x e).answer) at-sensor
-          ∙ answers;
-      leaves = λ a at-sensor at-choice.
-          ap (λ (b : Bool). (stepped b k a e).next.sensor) fits
-          ∙ ap (λ (x : Choice). (chosen k x a.sensor e).next) at-choice
-          ∙ ap (λ (x : Sensor). (chosen k c x e).next) at-sensor
-          ∙ leaves;
-    }
+chosen_gives = grind (arith, common_steps)
 
 happens_gives :
     (k : KindIs) (s : Sensor) (e : Exchange) (answer : Answer) (after : Sensor)
@@ -500,7 +426,7 @@ happens_gives k s e answer after fits bytes h =
     )
 
 clean_fits : Fits clean
-clean_fits = record { arrival = tt; status = omega arith; busy = omega arith; four = refl; shown = four_bytes [] no_bytes }
+clean_fits = grind (arith, common_steps)
 
 -- an exchange of another size has one outcome, whatever is next in the script
 other_size_gives :
@@ -509,11 +435,7 @@ other_size_gives :
     → answer ≡ missed
     → after ≡ s
     → Gives k clean s e answer after
-other_size_gives k s e answer after other answer-is after_is =
-    record {
-      answers = λ a at-sensor at-choice. ap (λ (b : Bool). (stepped b k a e).answer) other ∙ sym answer-is;
-      leaves = λ a at-sensor at-choice. ap (λ (b : Bool). (stepped b k a e).next.sensor) other ∙ at-sensor ∙ sym after_is;
-    }
+other_size_gives = grind (arith, common_steps)
 
 allowed_gives :
     (k : KindIs) (s : Sensor) (e : Exchange) (answer : Answer) (after : Sensor) (b : Bool)

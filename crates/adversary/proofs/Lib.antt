@@ -1,2 +1,1 @@
 pub mod Completing
-pub mod Picking

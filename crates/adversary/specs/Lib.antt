@@ -7,3 +7,4 @@ pub mod Adversarial
 pub mod Sound
 pub mod Complete
 pub mod Adversaries
+pub mod Parts

@@ -1,8 +1,9 @@
 -- What becomes of an exchange by a choice, and by a script. Assumes nothing.
-use Rattle.std.specs.Prelude.{ℕ, ◌+◌, Bool, true, false, cond, ◌&&◌, List, length, nat_lt, slice_index_or}
+use Rattle.std.specs.Prelude.{ℕ, Bool, true, false, cond, ◌&&◌, List, slice_index_or}
 use Rattle.sensor.specs.Kinds.{KindIs}
 use Rattle.sensor.specs.Exchanges.{Exchange, writes, reads, acknowledged, missed, filled, Outcome}
 use Rattle.sensor.specs.Sensors.{Sensor, started_up, rested, switched_on}
+use Rattle.sensor.specs.Scripts.{past}
 use Rattle.sensor.specs.Meaning.{asked}
 use Rattle.adversary.specs.Choices.{Choice, clean}
 use Rattle.adversary.specs.Sending.{arrives, written}
@@ -47,16 +48,26 @@ first ram choices = record { sensor = switched_on ram; choices = choices; at = 0
 abbrev pub choice_at : List Choice → ℕ → Choice
 choice_at choices at = slice_index_or choices at clean
 
-abbrev pub past : List Choice → ℕ → ℕ
-past choices at = cond (nat_lt at (length choices)) (at + 1) at
+-- the choice of the next exchange
+abbrev pub next_choice : Scripted → Choice
+next_choice a = choice_at a.choices a.at
+
+-- it is used up, and the sensor starts before its effect, if so chosen
+abbrev pub begun : Scripted → Scripted
+begun a =
+    record {
+      sensor = started_if (next_choice a).starts_before a.sensor;
+      choices = a.choices;
+      at = past a.choices a.at;
+    }
 
 -- an exchange of a size that a link has takes a choice; another is missed and does nothing
 abbrev pub stepped : Bool → KindIs → Scripted → Exchange → Outcome Scripted
 stepped true k a e =
     record {
-      answer = (chosen k (choice_at a.choices a.at) a.sensor e).answer;
+      answer = (chosen k (next_choice a) a.sensor e).answer;
       next = record {
-        sensor = (chosen k (choice_at a.choices a.at) a.sensor e).next;
+        sensor = (chosen k (next_choice a) a.sensor e).next;
         choices = a.choices;
         at = past a.choices a.at;
       };

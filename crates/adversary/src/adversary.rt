@@ -1,14 +1,14 @@
 // The adversary, and how it stands.
-ghost use Rattle.std.specs.Prelude.{◌≡◌, length, Ok, Err, MatchResult};
+ghost use Rattle.std.specs.Prelude.{◌≡◌, length, MatchResult};
 ghost use Rattle.chip.specs.Chips.{sensor_of};
-ghost use Rattle.chip.specs.Faults.{ram_checked};
+ghost use Rattle.chip.specs.Lending.{SizeChecked};
 ghost use Rattle.adversary.specs.Scripted.{first};
 ghost use Rattle.adversary.specs.Adversaries.{scripted_in};
 ghost use Rattle.adversary.specs.Sound.{Sound};
 ghost use Rattle.adversary.specs.Complete.{Complete};
 
 use super::choice::Choice;
-use chip::{Chip, Refused, State, check_ram};
+use chip::{Chip, Refused, State};
 use sensor::Kind;
 
 mod link;
@@ -30,24 +30,22 @@ impl<'a, K: Kind + Drop> Adversary<'a, K> {
         ram: &'a mut [u8],
         choices: &'a [Choice],
     ) -> Result<Adversary<'a, K>, Refused<'a>>
-        ensures size { MatchResult result (λ _. ram_checked (length ram.old) K.Kind.kind.window ≡ Ok tt) (λ e. ram_checked (length ram.old) K.Kind.kind.window ≡ Err e.fault) }
+        ensures size { SizeChecked (length ram.old) K.Kind.kind.window result }
         ensures state { MatchResult result (λ a. scripted_in a ≡ first ram.old choices.now) (λ e. e.ram.now ≡ ram.old) }
         ensures lent { MatchResult result (λ a. a.chip.ram.ghost_name ≡ ram.entry.ghost_name) (λ e. e.ram.ghost_name ≡ ram.entry.ghost_name) }
         ensures sound { Sound K.Kind.kind }
         ensures complete { Complete K.Kind.kind }
     {
-        if let Err(fault) = check_ram(ram, K::window_size()) {
-            return Err(Refused { fault, ram });
-        }
         Ok(Adversary {
             kind,
-            chip: Chip::switched_on(ram),
+            chip: Chip::new(ram, K::window_size())?,
             choices,
             at: 0,
         })
     }
 }
 
+// The simulated sensor has these three as well: a trait for three lines over a field would be no plainer.
 impl<K> Adversary<'_, K> {
     // The lent RAM.
     pub fn ram(&self) -> &[u8]

@@ -14,8 +14,9 @@ pub enum Arrival {
     Lost,
 }
 
-// One step of the script. What an exchange does not ask for is not looked at.
-#[derive(Clone, Copy, Debug)]
+// One step of the script: each pick stands alone, so that a script can make any of them. What an exchange does not ask for is
+// not looked at.
+#[derive(Clone, Copy, PartialEq, Eq, Debug)]
 pub struct Choice {
     // A starting sensor starts before the exchange has its effect.
     pub starts_before: bool,

@@ -1,45 +1,105 @@
-// What becomes of a frame on its way, and in the sensor.
+// What a choice does with a write.
 ghost use Rattle.std.specs.Prelude.{◌≡◌, ◌≤◌, length, take};
 ghost use Rattle.bootloader.specs.Frames.{decode_of};
+ghost use Rattle.sensor.specs.Exchanges.{writes, acknowledged, heard};
 ghost use Rattle.chip.specs.Chips.{sensor_in};
-ghost use Rattle.adversary.specs.Sending.{changed, refused, obeyed, judged, frame_sent, reason_of, arrives};
+ghost use Rattle.adversary.specs.Sending.{changed, refused, obeyed, judged, frame_sent, reason_of, arrives, written};
+ghost use Rattle.adversary.specs.Scripted.{effect};
 
 use super::choice::{Arrival, Choice};
-use bootloader::decode;
 use chip::Chip;
-
-// The most bytes in a frame.
-const LONGEST: usize = 131;
+use sensor::{BOOTLOADER, Kind, MOST_WRITTEN, Missed};
 
 // The status of a frame that is refused for no reason of its own.
 const NO_REASON: u8 = 15;
 
-// The frame on its way; what of it arrives is judged.
-pub(crate) fn send(chip: &mut Chip<'_>, window: u32, frame: &[u8], choice: Choice)
-    requires { length frame.now ≤ 131 }
-    ensures { sensor_in chip.new ≡ frame_sent window choice choice.arrival (sensor_in chip.old) frame.now }
-{
-    match choice.arrival {
-        Arrival::Whole => judge(chip, window, frame, choice),
-        Arrival::Changed { at, to } => {
-            let mut noisy = [0; LONGEST];
-            let got = &mut noisy[0..frame.len()];
-            got.copy_from_slice(frame);
-            change(got, at as usize, to);
-            judge(chip, window, got, choice);
+impl Choice {
+    // A write, apart from a start.
+    pub(crate) fn write<K: Kind>(
+        self,
+        chip: &mut Chip<'_>,
+        register: u8,
+        bytes: &[u8],
+    ) -> Result<(), Missed>
+        requires { length bytes.now ≤ 131 }
+        ensures next { sensor_in chip.new ≡ (effect K.Kind.kind self (sensor_in chip.old) (writes register bytes.now)).next }
+        ensures answer { (effect K.Kind.kind self (sensor_in chip.old) (writes register bytes.now)).answer ≡ heard result acknowledged }
+    {
+        self.send::<K>(chip, register, bytes);
+        if self.arrival.arrives() && self.heard {
+            Ok(())
+        } else {
+            Err(Missed)
         }
-        Arrival::Cut { at } => judge(chip, window, cut(frame, at as usize), choice),
-        Arrival::Lost => {}
+    }
+
+    // The bytes on their way.
+    fn send<K: Kind>(self, chip: &mut Chip<'_>, register: u8, bytes: &[u8])
+        requires { length bytes.now ≤ 131 }
+        ensures { sensor_in chip.new ≡ written K.Kind.kind self (sensor_in chip.old) register bytes.now }
+    {
+        if register == BOOTLOADER {
+            self.send_frame::<K>(chip, bytes);
+        } else if self.arrival.arrives() {
+            chip.tell::<K>(register, bytes);
+        }
+    }
+
+    // A frame on its way; what of it arrives is judged.
+    fn send_frame<K: Kind>(self, chip: &mut Chip<'_>, frame: &[u8])
+        requires { length frame.now ≤ 131 }
+        ensures { sensor_in chip.new ≡ frame_sent K.Kind.kind.window self self.arrival (sensor_in chip.old) frame.now }
+    {
+        match self.arrival {
+            Arrival::Whole => self.judge::<K>(chip, frame),
+            Arrival::Changed { at, to } => {
+                // Fixed memory: an exchange takes no heap.
+                let mut noisy = [0; MOST_WRITTEN];
+                let got = &mut noisy[..frame.len()];
+                got.copy_from_slice(frame);
+                change(got, at as usize, to);
+                self.judge::<K>(chip, got);
+            }
+            Arrival::Cut { at } => self.judge::<K>(chip, cut(frame, at as usize)),
+            Arrival::Lost => {}
+        }
+    }
+
+    // What the sensor does with bytes that arrived at register 0x08.
+    fn judge<K: Kind>(self, chip: &mut Chip<'_>, got: &[u8])
+        ensures { sensor_in chip.new ≡ judged K.Kind.kind.window self (sensor_in chip.old) got.now }
+    {
+        if chip.counts() {
+            if self.obeys {
+                self.obey::<K>(chip, got);
+            } else {
+                self.refuse(chip);
+            }
+        }
+    }
+
+    // Does what a frame says if the sensor can, and refuses it otherwise.
+    fn obey<K: Kind>(self, chip: &mut Chip<'_>, got: &[u8])
+        ensures { sensor_in chip.new ≡ obeyed K.Kind.kind.window self (sensor_in chip.old) (decode_of got.now) }
+    {
+        if chip.take_frame::<K>(got, self.working).is_err() {
+            self.refuse(chip);
+        }
+    }
+
+    fn refuse(self, chip: &mut Chip<'_>)
+        ensures { sensor_in chip.new ≡ refused self (sensor_in chip.old) }
+    {
+        chip.answer(reason(self.status), self.working);
     }
 }
 
-// Whether bytes arrive to their end.
-pub(crate) fn arrives(arrival: Arrival) -> bool
-    ensures { result ≡ arrives arrival }
-{
-    match arrival {
-        Arrival::Whole | Arrival::Changed { at: _, to: _ } => true,
-        Arrival::Cut { at: _ } | Arrival::Lost => false,
+impl Arrival {
+    // Whether bytes arrive to their end.
+    fn arrives(self) -> bool
+        ensures { result ≡ arrives self }
+    {
+        matches!(self, Arrival::Whole | Arrival::Changed { .. })
     }
 }
 
@@ -56,43 +116,7 @@ pub(crate) fn change(bytes: &mut [u8], at: usize, to: u8)
 fn cut(bytes: &[u8], at: usize) -> &[u8]
     ensures { result.now ≡ take at bytes.now }
 {
-    if at < bytes.len() {
-        &bytes[0..at]
-    } else {
-        bytes
-    }
-}
-
-// What the sensor does with bytes that arrived at register 0x08.
-fn judge(chip: &mut Chip<'_>, window: u32, got: &[u8], choice: Choice)
-    ensures { sensor_in chip.new ≡ judged window choice (sensor_in chip.old) got.now }
-{
-    if chip.counts() {
-        if choice.obeys {
-            obey(chip, window, got, choice);
-        } else {
-            refuse(chip, choice);
-        }
-    }
-}
-
-// Carries out what a frame says if the sensor can, and refuses it otherwise.
-fn obey(chip: &mut Chip<'_>, window: u32, got: &[u8], choice: Choice)
-    ensures { sensor_in chip.new ≡ obeyed window choice (sensor_in chip.old) (decode_of got.now) }
-{
-    let done = match decode(got) {
-        Ok(command) => chip.carry_out(window, &command, choice.working),
-        Err(_) => false,
-    };
-    if !done {
-        refuse(chip, choice);
-    }
-}
-
-fn refuse(chip: &mut Chip<'_>, choice: Choice)
-    ensures { sensor_in chip.new ≡ refused choice (sensor_in chip.old) }
-{
-    chip.answer(reason(choice.status), choice.working);
+    bytes.get(..at).unwrap_or(bytes)
 }
 
 // A status that refuses.

@@ -1,75 +1,94 @@
-// What a read shows.
-ghost use Rattle.std.specs.Prelude.{◌≡◌, ◌≤◌, true, length, take, if◌then◌else◌};
+// What a choice does with a read.
+ghost use Rattle.std.specs.Prelude.{◌≡◌, true, length, take, if◌then◌else◌, OnErr};
 ghost use Rattle.checksum.specs.Ranges.{within};
 ghost use Rattle.bootloader.specs.Replies.{status_reply};
+ghost use Rattle.sensor.specs.Exchanges.{reads, filled, heard};
 ghost use Rattle.sensor.specs.Sensors.{rested, in_loader};
 ghost use Rattle.sensor.specs.Meaning.{asked};
 ghost use Rattle.chip.specs.Chips.{sensor_in};
 ghost use Rattle.adversary.specs.Choices.{four};
-ghost use Rattle.adversary.specs.Showing.{shows_busy, status_number, noisy, same, enable_shown, shown_bytes, after_shown};
+ghost use Rattle.adversary.specs.Showing.{shows_busy, status_number, noisy, enable_shown, shown_bytes, after_shown};
+ghost use Rattle.adversary.specs.Scripted.{effect};
 
 use super::choice::{Arrival, Choice};
 use super::send::change;
-use chip::Chip;
-use sensor::{Asked, Enable, Kind, Stage, app_shown};
+use bootloader::LEAST_BUSY;
+use chip::{Chip, status_reply};
+use sensor::{Asked, Enable, Kind, Missed, Stage, app_shown};
 
-// From here on a status says that the sensor is at work.
-const LEAST_BUSY: u8 = 16;
-
-// Fills a buffer of 1 to 4 bytes.
-pub(crate) fn show<K: Kind>(chip: &mut Chip<'_>, register: u8, buf: &mut [u8], choice: Choice)
-    requires { within 1 4 (length buf.old) ≡ true }
-    ensures shown { buf.new ≡ shown_bytes K.Kind.kind choice (sensor_in chip.old) (asked register (length buf.old)) (length buf.old) }
-    ensures after { sensor_in chip.new ≡ after_shown choice (sensor_in chip.old) (asked register (length buf.old)) }
-{
-    match Asked::of(register, buf.len()) {
-        Asked::Status => show_status(chip, buf, choice),
-        Asked::Stage => {
-            let value = enable_shown::<K>(chip.stage().enable(), choice.shown[0]);
-            buf.copy_from_slice(&[value]);
+impl Choice {
+    // A read of 1 to 4 bytes, apart from a start.
+    pub(crate) fn read<K: Kind>(
+        self,
+        chip: &mut Chip<'_>,
+        register: u8,
+        buf: &mut [u8],
+    ) -> Result<(), Missed>
+        requires { within 1 4 (length buf.old) ≡ true }
+        ensures next { sensor_in chip.new ≡ (effect K.Kind.kind self (sensor_in chip.old) (reads register (length buf.old))).next }
+        ensures answer { (effect K.Kind.kind self (sensor_in chip.old) (reads register (length buf.old))).answer ≡ heard result (filled buf.new) }
+        ensures kept { OnErr result (buf.new ≡ buf.old) }
+    {
+        if self.heard {
+            self.show::<K>(chip, register, buf);
+            return Ok(());
         }
-        Asked::App => {
-            let value = app_shown::<K>(chip.stage(), choice.shown[0]);
-            buf.copy_from_slice(&[value]);
+        if self.rests {
+            chip.rest();
         }
-        Asked::Other => show_anything(buf, choice.shown),
+        Err(Missed)
+    }
+
+    // Fills a buffer of 1 to 4 bytes.
+    fn show<K: Kind>(self, chip: &mut Chip<'_>, register: u8, buf: &mut [u8])
+        requires { within 1 4 (length buf.old) ≡ true }
+        ensures shown { buf.new ≡ shown_bytes K.Kind.kind self (sensor_in chip.old) (asked register (length buf.old)) (length buf.old) }
+        ensures after { sensor_in chip.new ≡ after_shown self (sensor_in chip.old) (asked register (length buf.old)) }
+    {
+        match Asked::of(register, buf.len()) {
+            Asked::Status => buf.copy_from_slice(&self.reply(chip)),
+            Asked::Stage => {
+                buf.copy_from_slice(&[enable_shown::<K>(chip.stage().enable(), self.shown[0])]);
+            }
+            Asked::App => buf.copy_from_slice(&[app_shown::<K>(chip.stage(), self.shown[0])]),
+            Asked::Other => buf.copy_from_slice(&self.shown[..buf.len()]),
+        }
+    }
+
+    // Three bytes at register 0x08.
+    fn reply(self, chip: &mut Chip<'_>) -> [u8; 3]
+        ensures shown { result ≡ (if in_loader (sensor_in chip.old).stage then noisy self.arrival (status_reply (status_number self (sensor_in chip.old))) else take 3 (four self.shown)) }
+        ensures after { sensor_in chip.new ≡ (if in_loader (sensor_in chip.old).stage then (if shows_busy self (sensor_in chip.old) then sensor_in chip.old else rested (sensor_in chip.old)) else sensor_in chip.old) }
+    {
+        if chip.stage() == Stage::Loader {
+            self.arrival.noisy(status_reply(self.end_work(chip)))
+        } else {
+            [self.shown[0], self.shown[1], self.shown[2]]
+        }
+    }
+
+    // The number that the status reply shows; the work ends unless that is a busy one.
+    fn end_work(self, chip: &mut Chip<'_>) -> u8
+        ensures number { result ≡ status_number self (sensor_in chip.old) }
+        ensures after { sensor_in chip.new ≡ (if shows_busy self (sensor_in chip.old) then sensor_in chip.old else rested (sensor_in chip.old)) }
+    {
+        if chip.is_working() && self.busy >= LEAST_BUSY && !self.rests {
+            return self.busy;
+        }
+        chip.rest();
+        chip.status()
     }
 }
 
-// Three bytes at register 0x08.
-fn show_status(chip: &mut Chip<'_>, buf: &mut [u8], choice: Choice)
-    requires { length buf.old ≡ 3 }
-    ensures shown { buf.new ≡ (if in_loader (sensor_in chip.old).stage then noisy choice.arrival (status_reply (status_number choice (sensor_in chip.old))) else take 3 (four choice.shown)) }
-    ensures after { sensor_in chip.new ≡ (if in_loader (sensor_in chip.old).stage then (if shows_busy choice (sensor_in chip.old) then sensor_in chip.old else rested (sensor_in chip.old)) else sensor_in chip.old) }
-{
-    if chip.stage() != Stage::Loader {
-        show_anything(buf, choice.shown);
-        return;
-    }
-    let number = end_work(chip, choice);
-    put_reply(number, choice.arrival, buf);
-}
-
-// The number that the status reply shows; the work ends unless that is a busy one.
-fn end_work(chip: &mut Chip<'_>, choice: Choice) -> u8
-    ensures number { result ≡ status_number choice (sensor_in chip.old) }
-    ensures after { sensor_in chip.new ≡ (if shows_busy choice (sensor_in chip.old) then sensor_in chip.old else rested (sensor_in chip.old)) }
-{
-    if chip.is_working() && choice.busy >= LEAST_BUSY && !choice.rests {
-        return choice.busy;
-    }
-    chip.rest();
-    chip.status()
-}
-
-// A status reply as it arrives.
-fn put_reply(number: u8, arrival: Arrival, buf: &mut [u8])
-    requires { length buf.old ≡ 3 }
-    ensures { buf.new ≡ noisy arrival (status_reply number) }
-{
-    buf.copy_from_slice(&[number, 0, 255 - number]);
-    if let Arrival::Changed { at, to } = arrival {
-        change(buf, at as usize, to);
+impl Arrival {
+    // A status reply as it arrives.
+    fn noisy(self, mut reply: [u8; 3]) -> [u8; 3]
+        ensures { result ≡ noisy self reply }
+    {
+        if let Arrival::Changed { at, to } = self {
+            change(&mut reply, at as usize, to);
+        }
+        reply
     }
 }
 
@@ -77,29 +96,9 @@ fn put_reply(number: u8, arrival: Arrival, buf: &mut [u8])
 fn enable_shown<K: Kind>(says: Enable, value: u8) -> u8
     ensures { result ≡ enable_shown K.Kind.kind says value }
 {
-    if is_same(K::classify(value), says) {
+    if K::classify(value) == says {
         value
     } else {
         K::enable_value(says)
     }
-}
-
-fn is_same(a: Enable, b: Enable) -> bool
-    ensures { result ≡ same a b }
-{
-    match (a, b) {
-        (Enable::Asleep, Enable::Asleep)
-        | (Enable::Starting, Enable::Starting)
-        | (Enable::Ready, Enable::Ready)
-        | (Enable::Strange, Enable::Strange) => true,
-        _ => false,
-    }
-}
-
-// Where anything may be shown.
-fn show_anything(buf: &mut [u8], shown: [u8; 4])
-    requires { length buf.old ≤ 4 }
-    ensures { buf.new ≡ take (length buf.old) (four shown) }
-{
-    buf.copy_from_slice(&shown[0..buf.len()]);
 }

@@ -1,20 +1,11 @@
 -- A frame is made of bytes. Assumes nothing.
-use Rattle.std.proofs.Common.{◌≡◌, ℕ, zero, suc, ◌<◌, ◌≤◌, List, [], ◌∷◌, ◌++◌, length, get_or, ⊎_elim, arith}
-use Rattle.std.proofs.lemmas.List.{length-append, get_or_append_left, get_or_at, get_or_past}
-use Rattle.std.proofs.lemmas.Bool.{cases_lt, cases_eq}
+use Rattle.std.proofs.Common.{ℕ, zero, suc, ◌<◌, ◌≤◌, List, [], ◌∷◌, ◌++◌, length, get_or, arith}
+use Rattle.std.proofs.lemmas.Grind.{elements}
 use Rattle.bootloader.specs.Commands.{CommandIs, ram_remap_reset, rom_remap_reset, download_init, write_ram, addr_ram, code_of, payload_of}
 use Rattle.bootloader.specs.Frames.{csum_of, headed, framed, frame_of}
 
 push_bytes : (xs : List ℕ) (y : ℕ) → ((k : ℕ) → get_or xs k 0 < 256) → y < 256 → (k : ℕ) → get_or (xs ++ (y ∷ [])) k 0 < 256
-push_bytes xs y below last k =
-    ⊎_elim
-    (λ (inside : k < length xs). let e = get_or_append_left xs (y ∷ []) 0 k inside in omega (arith, below k))
-    (λ (past : length xs ≤ k).
-    ⊎_elim
-    (λ (same : length xs ≡ k). let e = get_or_at xs y [] 0 k same in omega arith)
-    (λ (other : length xs ≡ k → ⊥). let e = get_or_past (xs ++ (y ∷ [])) k 0 (omega (arith, length-append xs (y ∷ []))) in omega arith)
-    (cases_eq (length xs) k))
-    (cases_lt k (length xs))
+push_bytes xs y below last k = grind (arith, elements, below k)
 
 head_bytes : (code : ℕ) (payload : List ℕ) → code < 256 → length payload < 256 → ((k : ℕ) → get_or payload k 0 < 256) → (k : ℕ) → get_or (headed code payload) k 0 < 256
 head_bytes code payload first size below zero = first

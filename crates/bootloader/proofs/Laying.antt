@@ -18,20 +18,19 @@ module _ (code : ℕ) (payload part : List ℕ) (end : ℕ) (same : part ≡ pay
       let e : end - 2 ≡ length payload = omega arith in
       rw (same, e)
 
-  closing : (x y : ℕ) (rest : List ℕ) (csum : ℕ) → length payload < length rest → csum ≡ csum_of (take (end - 0) (fronted code payload part (x ∷ y ∷ rest) end)) → set (fronted code payload part (x ∷ y ∷ rest) end) end csum ≡ framed code payload ++ drop (length payload + 1) rest
+  closing : (x y : ℕ) (rest : List ℕ) (csum : ℕ) → length payload < length rest → csum ≡ csum_of (take end (fronted code payload part (x ∷ y ∷ rest) end)) → set (fronted code payload part (x ∷ y ∷ rest) end) end csum ≡ framed code payload ++ drop (length payload + 1) rest
   unfolding framed
   closing x y rest csum long is =
       let head = headed code payload in
       let n : length head ≡ end = omega arith in
-      let m : length head ≡ end - 0 = omega arith in
-      let sum : csum ≡ csum_of head = is ∙ ap (λ l. csum_of (take (end - 0) l)) (front x y rest) ∙ ap csum_of (take_at head (drop (length payload) rest) (end - 0) m) in
+      let laid = front x y rest in
+      let kept : take end (head ++ drop (length payload) rest) ≡ head = take_at head (drop (length payload) rest) end n in
       let spot : drop (length payload) rest ≡ get_or rest (length payload) 0 ∷ drop (length payload + 1) rest = drop_more rest (length payload) 0 long in
-      ap (λ l. set l end csum) (front x y rest ∙ ap (λ l. head ++ l) spot)
-      ∙ set_at head (get_or rest (length payload) 0) (drop (length payload + 1) rest) csum end n
-      ∙ ap (λ t. head ++ (t ∷ drop (length payload + 1) rest)) sum
-      ∙ sym (append_assoc head (csum_of head ∷ []) (drop (length payload + 1) rest))
+      let put = set_at head (get_or rest (length payload) 0) (drop (length payload + 1) rest) csum end n in
+      let joined = append_assoc head (csum_of head ∷ []) (drop (length payload + 1) rest) in
+      cc
 
-  pub frame_laid : (buf : List ℕ) (csum : ℕ) → length payload + 3 ≤ length buf → csum ≡ csum_of (take (end - 0) (fronted code payload part buf end)) → set (fronted code payload part buf end) end csum ≡ framed code payload ++ drop (length (framed code payload)) buf
+  pub frame_laid : (buf : List ℕ) (csum : ℕ) → length payload + 3 ≤ length buf → csum ≡ csum_of (take end (fronted code payload part buf end)) → set (fronted code payload part buf end) end csum ≡ framed code payload ++ drop (length (framed code payload)) buf
   frame_laid [] csum long is = absurd (omega arith)
   frame_laid (x ∷ []) csum long is = absurd (omega arith)
   frame_laid (x ∷ y ∷ rest) csum long is =

@@ -4,4 +4,3 @@ pub mod Bounding
 pub mod Changing
 pub mod Spoiling
 pub mod Spelling
-pub mod Stringing

@@ -1,13 +1,13 @@
 -- A frame reads back as its command. Assumes nothing.
-use Rattle.std.proofs.Common.{◌≡◌, ℕ, ◌+◌, ◌-◌, ◌*◌, ◌/◌, ◌%◌, ◌≤◌, true, leb, List, [], ◌∷◌, ◌++◌, length, get_or, take, drop, is_ok, IfOk, Ok, Err, Result, sym, refl, ap, ◌∙◌, arith}
+use Rattle.std.proofs.Common.{◌≡◌, ℕ, ◌+◌, ◌-◌, ◌*◌, ◌/◌, ◌%◌, ◌≤◌, true, List, [], ◌∷◌, length, get_or, take, drop, is_ok, IfOk, Ok, Err, Result, sym, refl, ap, ◌∙◌, arith}
 use Rattle.std.specs.List.{between}
 use Rattle.std.proofs.lemmas.List.{get_or_at, take_at}
-use Rattle.std.proofs.lemmas.Bool.{le-leb, leb-true, eq-eqb, cond_both}
+use Rattle.std.proofs.lemmas.Bool.{le-leb, eq-eqb}
+use Rattle.std.proofs.lemmas.Bool.Decides.{nat_tests}
 use Rattle.checksum.specs.Outcomes.{map_ok}
 use Rattle.bootloader.specs.declared.fault.FrameFault.{FrameFault}
-use Rattle.bootloader.specs.declared.fault.FrameFault.TheVariants.{DataTooLong, BufferTooShort}
 use Rattle.bootloader.specs.Commands.{CommandIs, ram_remap_reset, rom_remap_reset, download_init, write_ram, addr_ram, code_of, payload_of}
-use Rattle.bootloader.specs.Frames.{csum_of, headed, must, framed, frame_of, encode_of, laid_over, command_of, decode_of, well_formed}
+use Rattle.bootloader.specs.Frames.{csum_of, headed, framed, frame_of, encode_of, laid_over, command_of, decode_of, well_formed}
 use Rattle.bootloader.specs.Laws.{ReadsBack}
 use Rattle.bootloader.proofs.Laying.{length_framed}
 
@@ -49,29 +49,17 @@ frame_well_formed command short = ap is_ok (frame_decodes command short)
 pub encode_fits : (room : ℕ) (command : CommandIs) → length (payload_of command) ≤ 128 → length (payload_of command) + 3 ≤ room → encode_of room command ≡ Ok (frame_of command)
 encode_fits room command short fits = rw (le-leb (length (payload_of command)) 128 short, le-leb (length (payload_of command) + 3) room fits)
 
--- what is written is the command's frame, which fits
-abbrev pub Written : CommandIs → ℕ → List ℕ → Type 0
-Written command room frame = (frame ≡ frame_of command) × (length (payload_of command) ≤ 128) × (length (payload_of command) + 3 ≤ room)
+-- what is written is the command's frame, and its data are few enough
+abbrev Written : CommandIs → List ℕ → Type 0
+Written command frame = (frame ≡ frame_of command) × (length (payload_of command) ≤ 128)
 
-pub written : (room : ℕ) (command : CommandIs) → IfOk (encode_of room command) (Written command room)
-written room command =
-    let n = length (payload_of command) in
-    let fitting : Result (Unit {0}) FrameFault = must (leb (n + 3) room) BufferTooShort (Ok tt) in
-    let Said : Result (Unit {0}) FrameFault → Type 0 = λ x. IfOk (map_ok (λ _. frame_of command) x) (Written command room) in
-    cond_both (leb n 128) fitting (Err DataTooLong) Said
-    (λ short. cond_both (leb (n + 3) room) (Ok tt) (Err BufferTooShort) Said (λ fits. (refl, leb-true n 128 short, leb-true (n + 3) room fits)) (λ _. tt))
-    (λ _. tt)
+written : (room : ℕ) (command : CommandIs) → IfOk (encode_of room command) (Written command)
+written room command = grind (arith, nat_tests)
 
--- what encoding a command tells of its result and of the buffer after it
-abbrev pub Told : CommandIs → List ℕ → List ℕ → Result ℕ FrameFault → Type 0
-Told command buf after r = IfOk r (λ n. (n ≤ length buf) × (n ≤ 131)) × IfOk r (λ n. take n after ≡ frame_of command) × ReadsBack command r after
+read_over : (command : CommandIs) (buf : List ℕ) (x : Result (List ℕ) FrameFault) → IfOk x (Written command) → ReadsBack command (map_ok length x) (laid_over buf x)
+read_over command buf (Ok frame) h =
+    ap decode_of (take_at frame (drop (length frame) buf) (length frame) refl ∙ h.0) ∙ frame_decodes command h.1
+read_over command buf (Err fault) h = tt
 
-told : (command : CommandIs) (buf : List ℕ) (x : Result (List ℕ) FrameFault) → IfOk x (Written command (length buf)) → Told command buf (laid_over buf x) (map_ok length x)
-told command buf (Ok frame) h =
-    let long : length frame ≡ length (payload_of command) + 3 = ap length h.0 ∙ length_framed (code_of command) (payload_of command) in
-    let front : take (length frame) (frame ++ drop (length frame) buf) ≡ frame_of command = take_at frame (drop (length frame) buf) (length frame) refl ∙ h.0 in
-    ((omega (arith, h.2), omega (arith, h.1)), front, ap decode_of front ∙ frame_decodes command h.1)
-told command buf (Err fault) h = (tt, tt, tt)
-
-pub encoded : (command : CommandIs) (buf after : List ℕ) (r : Result ℕ FrameFault) → r ≡ map_ok length (encode_of (length buf) command) → after ≡ laid_over buf (encode_of (length buf) command) → Told command buf after r
-encoded command buf after r result left = rw (result, left) (told command buf (encode_of (length buf) command) (written (length buf) command))
+pub reads_back : (command : CommandIs) (buf after : List ℕ) (r : Result ℕ FrameFault) → r ≡ map_ok length (encode_of (length buf) command) → after ≡ laid_over buf (encode_of (length buf) command) → ReadsBack command r after
+reads_back command buf after r result left = rw (result, left) (read_over command buf (encode_of (length buf) command) (written (length buf) command))

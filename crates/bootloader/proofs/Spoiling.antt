@@ -1,14 +1,14 @@
 -- A status reply with one byte changed is spoiled. Assumes nothing.
-use Rattle.std.proofs.Common.{◌≡◌, ℕ, zero, suc, ◌-◌, ◌<◌, ◌&&◌, eqb, List, [], ◌∷◌, length, get_or, set, refl, ⊎_elim, arith}
-use Rattle.std.proofs.lemmas.Bool.{eqb-true, ne_eqb, eq-eqb, and_parts, and_left, and_right, cases_Bool, cond-false}
+use Rattle.std.proofs.Common.{◌≡◌, ℕ, zero, suc, ◌-◌, ◌<◌, List, [], ◌∷◌, length, get_or, set, arith}
+use Rattle.std.proofs.lemmas.Bool.Decides.{nat_tests}
 use Rattle.bootloader.specs.declared.status.Reply.TheVariants.{Spoiled}
-use Rattle.bootloader.specs.Replies.{status_reply, shaped, status_of, reply_of}
+use Rattle.bootloader.specs.Replies.{status_reply, status_of, reply_of}
 use Rattle.bootloader.specs.Laws.{NoticesSpoiling}
 
 -- a status is shown by its reply
 pub status_shown_lem : (status : ℕ) → reply_of (status_reply status) ≡ status_of status
 unfolding reply_of
-status_shown_lem status = rw (eq-eqb (255 - status) (255 - status) refl)
+status_shown_lem status = grind (arith, nat_tests)
 
 -- what a reply that is not spoiled has passed
 pub record Shaped (bytes : List ℕ) : Type 0 where
@@ -18,27 +18,16 @@ pub record Shaped (bytes : List ℕ) : Type 0 where
 
 pub not_spoiled : (bytes : List ℕ) → (reply_of bytes ≡ Spoiled → ⊥) → Shaped bytes
 unfolding reply_of
-not_spoiled bytes h =
-    ⊎_elim
-    (λ whole.
-    let outer = and_parts (eqb (length bytes) 3 && eqb (get_or bytes 1 0) 0) (eqb (get_or bytes 2 0) (255 - get_or bytes 0 0)) whole in
-    let inner = and_parts (eqb (length bytes) 3) (eqb (get_or bytes 1 0) 0) outer.0 in
-    record { three = eqb-true (length bytes) 3 inner.0; zeroed = eqb-true (get_or bytes 1 0) 0 inner.1; check = eqb-true (get_or bytes 2 0) (255 - get_or bytes 0 0) outer.1 })
-    (λ off. absurd (h (cond-false (shaped bytes) (status_of (get_or bytes 0 0)) Spoiled off)))
-    (cases_Bool (shaped bytes))
+not_spoiled bytes h = grind (arith, nat_tests)
 
 -- a second byte other than 0, or a third other than 255 less the first
 spoiled_zero : (bytes : List ℕ) → (get_or bytes 1 0 ≡ 0 → ⊥) → reply_of bytes ≡ Spoiled
 unfolding reply_of
-spoiled_zero bytes h =
-    cond-false (shaped bytes) (status_of (get_or bytes 0 0)) Spoiled
-    (and_left (eqb (length bytes) 3 && eqb (get_or bytes 1 0) 0) (eqb (get_or bytes 2 0) (255 - get_or bytes 0 0)) (and_right (eqb (length bytes) 3) (eqb (get_or bytes 1 0) 0) (ne_eqb (get_or bytes 1 0) 0 h)))
+spoiled_zero bytes h = grind (arith, nat_tests)
 
 spoiled_check : (bytes : List ℕ) → (get_or bytes 2 0 ≡ 255 - get_or bytes 0 0 → ⊥) → reply_of bytes ≡ Spoiled
 unfolding reply_of
-spoiled_check bytes h =
-    cond-false (shaped bytes) (status_of (get_or bytes 0 0)) Spoiled
-    (and_right (eqb (length bytes) 3 && eqb (get_or bytes 1 0) 0) (eqb (get_or bytes 2 0) (255 - get_or bytes 0 0)) (ne_eqb (get_or bytes 2 0) (255 - get_or bytes 0 0) h))
+spoiled_check bytes h = grind (arith, nat_tests)
 
 one_changed : (s z t i b : ℕ) → z ≡ 0 → t ≡ 255 - s → s < 256 → i < 3 → b < 256 → (b ≡ get_or (s ∷ z ∷ t ∷ []) i 0 → ⊥) → reply_of (set (s ∷ z ∷ t ∷ []) i b) ≡ Spoiled
 one_changed s z t zero b zeroed check byte inside fits other = spoiled_check (b ∷ z ∷ t ∷ []) (λ e. other (omega arith))
@@ -47,11 +36,8 @@ one_changed s z t (suc (suc zero)) b zeroed check byte inside fits other = spoil
 one_changed s z t (suc (suc (suc i))) b zeroed check byte inside fits other = absurd (omega arith)
 
 shaped_changed : (bytes : List ℕ) → Shaped bytes → get_or bytes 0 0 < 256 → (i b : ℕ) → i < length bytes → b < 256 → (b ≡ get_or bytes i 0 → ⊥) → reply_of (set bytes i b) ≡ Spoiled
-shaped_changed [] shape byte i b inside fits other = absurd (omega (arith, shape.three))
-shaped_changed (s ∷ []) shape byte i b inside fits other = absurd (omega (arith, shape.three))
-shaped_changed (s ∷ z ∷ []) shape byte i b inside fits other = absurd (omega (arith, shape.three))
 shaped_changed (s ∷ z ∷ t ∷ []) shape byte i b inside fits other = one_changed s z t i b shape.zeroed shape.check byte inside fits other
-shaped_changed (s ∷ z ∷ t ∷ u ∷ more) shape byte i b inside fits other = absurd (omega (arith, shape.three))
+shaped_changed bytes shape byte i b inside fits other = grind arith
 
 pub change_spoils : (bytes : List ℕ) → ((k : ℕ) → get_or bytes k 0 < 256) → NoticesSpoiling bytes
 change_spoils bytes below h i b inside fits other = shaped_changed bytes (not_spoiled bytes h) (below 0) i b inside fits other

@@ -2,7 +2,7 @@
 ghost use Rattle.std.specs.Prelude.{◌≡◌};
 ghost use Rattle.bootloader.specs.Commands.{meaning, ram_remap_reset, download_init, addr_ram};
 
-#[derive(Clone, Copy, Debug)]
+#[derive(Clone, Copy, PartialEq, Eq, Debug)]
 pub enum Command<'a> {
     // Remap to the RAM and reset: the sensor then starts from its RAM.
     RamRemapReset,

@@ -4,20 +4,21 @@ ghost use Rattle.bootloader.specs.Faults.{number_of, words_of};
 
 use std::fmt;
 
+// Each has the number under which it is reported.
 #[derive(Clone, Copy, PartialEq, Eq, Debug)]
 pub enum FrameFault {
     // More than 128 data bytes.
-    DataTooLong,
+    DataTooLong = 24,
     // The buffer is shorter than the frame.
-    BufferTooShort,
+    BufferTooShort = 25,
     // Under three bytes, or not SIZE + 3 of them.
-    WrongLength,
+    WrongLength = 26,
     // CSUM does not fit the other bytes.
-    WrongChecksum,
+    WrongChecksum = 27,
     // The command, its SIZE or its seed is not in the table.
-    UnknownCommand,
+    UnknownCommand = 28,
     // The buffer is shorter than the longest string.
-    StringBufferTooShort,
+    StringBufferTooShort = 30,
 }
 
 impl FrameFault {
@@ -25,14 +26,7 @@ impl FrameFault {
     pub fn number(&self) -> u8
         ensures { result ≡ number_of self.now }
     {
-        match self {
-            FrameFault::DataTooLong => 24,
-            FrameFault::BufferTooShort => 25,
-            FrameFault::WrongLength => 26,
-            FrameFault::WrongChecksum => 27,
-            FrameFault::UnknownCommand => 28,
-            FrameFault::StringBufferTooShort => 30,
-        }
+        *self as u8
     }
 
     // The fault in words.
@@ -63,3 +57,5 @@ impl fmt::Display for FrameFault {
         f.pad(self.words())
     }
 }
+
+impl std::error::Error for FrameFault {}

@@ -1,14 +1,14 @@
 // Commands as frames: command code, SIZE, SIZE data bytes, CSUM.
-ghost use Rattle.std.specs.Prelude.{◌≡◌, ◌+◌, ◌≤◌, true, ◌++◌, length, take, drop, IfOk, OnOk};
+ghost use Rattle.std.specs.Prelude.{◌≡◌, ◌+◌, ◌≤◌, ◌++◌, length, take, drop, IfOk, OnOk};
 ghost use Rattle.checksum.specs.Outcomes.{map_ok};
 ghost use Rattle.bootloader.specs.Commands.{meaning};
-ghost use Rattle.bootloader.specs.Frames.{csum_of, framed, frame_of, room_for, frame_within, encode_of, laid_over, size_fits, csum_fits, command_of, checked, decode_of};
+ghost use Rattle.bootloader.specs.Frames.{csum_of, framed, frame_of, room_for, frame_within, encode_of, laid_over, command_of, decode_of};
 ghost use Rattle.bootloader.specs.Laws.{ReadsBack, NoticesChange, NoticesCut};
 
 use super::command::Command;
 use super::fault::FrameFault;
 
-// The command codes.
+// The command codes, as they are sent.
 const RAM_REMAP_RESET: u8 = 0x11;
 
 const ROM_REMAP_RESET: u8 = 0x12;
@@ -25,8 +25,12 @@ const SEED: u8 = 0x29;
 // The most data bytes in a frame.
 const MOST_DATA: usize = 128;
 
+// The length of the longest frame.
+pub const LONGEST_FRAME: usize = MOST_DATA + 3;
+
 impl Command<'_> {
     // The command's frame at the buffer's front, and its length.
+    #[tactic(auto, using(crate::proofs::Laying::length_framed))]
     pub fn encode(&self, buf: &mut [u8]) -> Result<usize, FrameFault>
         ensures result { result ≡ map_ok length (encode_of (length buf.old) (meaning self.now)) }
         ensures after { buf.new ≡ laid_over buf.old (encode_of (length buf.old) (meaning self.now)) }
@@ -52,43 +56,23 @@ impl Command<'_> {
     }
 }
 
-// The command that a frame says.
+// The command that a frame says: its length is looked at first, then CSUM, then the table.
+#[tactic(auto, using(crate::proofs::Changing::change_refused, crate::proofs::Changing::cut_refused), unfolding(crate::specs::Frames::decode_of))]
 pub fn decode(frame: &[u8]) -> Result<Command<'_>, FrameFault>
     ensures value { map_ok meaning result ≡ decode_of frame.now }
     ensures change { NoticesChange frame.now }
     ensures cut { NoticesCut frame.now }
 {
-    read_frame(frame)
-}
-
-// The same: its length first, then CSUM, then the table.
-fn read_frame(frame: &[u8]) -> Result<Command<'_>, FrameFault>
-    ensures { map_ok meaning result ≡ checked frame.now }
-{
-    if !size_fits(frame) {
+    let [code, size, payload @ .., check] = frame else {
+        return Err(FrameFault::WrongLength);
+    };
+    if payload.len() != usize::from(*size) {
         return Err(FrameFault::WrongLength);
     }
-    if !csum_fits(frame) {
+    if *check != csum(&frame[..frame.len() - 1]) {
         return Err(FrameFault::WrongChecksum);
     }
-    command_of(frame[0], &frame[2..frame.len() - 1])
-}
-
-// Whether a frame has SIZE + 3 bytes.
-fn size_fits(frame: &[u8]) -> bool
-    ensures value { result ≡ size_fits frame.now }
-    ensures long { result ≡ true → 3 ≤ length frame.now }
-{
-    frame.len() >= 3 && frame.len() == frame[1] as usize + 3
-}
-
-// Whether a frame's last byte is the CSUM of those before it.
-fn csum_fits(frame: &[u8]) -> bool
-    requires { 3 ≤ length frame.now }
-    ensures { result ≡ csum_fits frame.now }
-{
-    let last = frame.len() - 1;
-    frame[last] == csum(&frame[0..last])
+    command_of(*code, payload)
 }
 
 // What stands after these bytes in a frame.
@@ -122,6 +106,7 @@ fn check_room(room: usize, size: usize) -> Result<(), FrameFault>
 }
 
 // The frame at the front of a buffer that it goes into, and its length.
+#[tactic(auto, using(crate::proofs::Laying::length_framed))]
 fn fill_frame(code: u8, payload: &[u8], buf: &mut [u8]) -> usize
     requires { (length payload.now ≤ 128) × (length payload.now + 3 ≤ length buf.old) }
     ensures result { result ≡ length (framed code payload.now) }
@@ -131,7 +116,7 @@ fn fill_frame(code: u8, payload: &[u8], buf: &mut [u8]) -> usize
     buf[0] = code;
     buf[1] = payload.len() as u8;
     buf[2..end].copy_from_slice(payload);
-    buf[end] = csum(&buf[0..end]);
+    buf[end] = csum(&buf[..end]);
     end + 1
 }
 

@@ -9,5 +9,5 @@ mod string;
 
 pub use command::Command;
 pub use fault::FrameFault;
-pub use frame::decode;
-pub use status::{Reply, read_reply};
+pub use frame::{LONGEST_FRAME, decode};
+pub use status::{LEAST_BUSY, Reply, read_reply};

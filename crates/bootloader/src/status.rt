@@ -1,8 +1,12 @@
 // The bootloader's status replies.
-ghost use Rattle.std.specs.Prelude.{◌≡◌, true, length};
+ghost use Rattle.std.specs.Prelude.{◌≡◌};
 ghost use Rattle.bootloader.specs.Laws.{NoticesSpoiling};
-ghost use Rattle.bootloader.specs.Replies.{shaped, status_of, reply_of};
+ghost use Rattle.bootloader.specs.Replies.{status_of, reply_of};
 
+// From here on a status says that the sensor is at work.
+pub const LEAST_BUSY: u8 = 16;
+
+// No Option or Result: a reply says one of four things, and which of them is a fault depends on what was sent.
 #[derive(Clone, Copy, PartialEq, Eq, Debug)]
 pub enum Reply {
     // The last command is carried out.
@@ -15,24 +19,16 @@ pub enum Reply {
     Spoiled,
 }
 
-// What a status reply says.
+// What a status reply says: a status, 0, and 255 less the status.
+#[tactic(auto, using(crate::proofs::Spoiling::change_spoils), unfolding(crate::specs::Replies::reply_of))]
 pub fn read_reply(bytes: &[u8]) -> Reply
     ensures value { result ≡ reply_of bytes.now }
     ensures change { NoticesSpoiling bytes.now }
 {
-    if is_shaped(bytes) {
-        of_status(bytes[0])
-    } else {
-        Reply::Spoiled
+    match bytes {
+        [status, 0, check] if *check == 255 - *status => of_status(*status),
+        _ => Reply::Spoiled,
     }
-}
-
-// Whether these are a status, 0, and 255 less the status.
-fn is_shaped(bytes: &[u8]) -> bool
-    ensures value { result ≡ shaped bytes.now }
-    ensures long { result ≡ true → length bytes.now ≡ 3 }
-{
-    bytes.len() == 3 && bytes[1] == 0 && bytes[2] == 255 - bytes[0]
 }
 
 // What a status means.
@@ -42,6 +38,6 @@ fn of_status(status: u8) -> Reply
     match status {
         0 => Reply::Ready,
         1..=15 => Reply::Refused(status),
-        16.. => Reply::Busy(status),
+        LEAST_BUSY.. => Reply::Busy(status),
     }
 }

@@ -1,5 +1,5 @@
 // Frames as I2C strings: a start, each byte as two digits and a space, `P`, a line feed.
-ghost use Rattle.std.specs.Prelude.{◌≡◌, ◌+◌, ◌*◌, ◌<◌, ◌≤◌, ◌++◌, length, take, drop, IfOk};
+ghost use Rattle.std.specs.Prelude.{◌≡◌, ◌+◌, ◌*◌, ◌<◌, ◌≤◌, ◌++◌, length, drop, IfOk};
 ghost use Rattle.std.specs.List.{flat_map};
 ghost use Rattle.checksum.specs.Capitals.{capital};
 ghost use Rattle.checksum.specs.Outcomes.{map_ok};
@@ -9,6 +9,7 @@ ghost use Rattle.bootloader.specs.Strings.{spelled, strung, command_string, stri
 
 use super::command::Command;
 use super::fault::FrameFault;
+use super::frame::LONGEST_FRAME;
 
 // The start of a string that writes to the bootloader: device 0x41, register 0x08.
 const TO_BOOTLOADER: &[u8; 10] = b"S 41 W 08 ";
@@ -16,9 +17,7 @@ const TO_BOOTLOADER: &[u8; 10] = b"S 41 W 08 ";
 // The end of every string.
 const STOP: &[u8; 2] = b"P\n";
 
-// The length of the longest frame, and of its string.
-const LONGEST_FRAME: usize = 131;
-
+// The length of the longest frame's string.
 const LONGEST_STRING: usize = 405;
 
 impl Command<'_> {
@@ -35,6 +34,7 @@ impl Command<'_> {
     }
 
     // The same, into a buffer that any string goes into.
+    #[tactic(auto, using(crate::proofs::Spelling::length_strung))]
     fn lay_string(&self, buf: &mut [u8]) -> Result<usize, FrameFault>
         requires { 405 ≤ length buf.old }
         ensures result { result ≡ map_ok length (command_string (meaning self.now)) }
@@ -43,35 +43,33 @@ impl Command<'_> {
     {
         let mut frame = [0; LONGEST_FRAME];
         let n = self.encode(&mut frame)?;
-        Ok(put_string(TO_BOOTLOADER, &frame[0..n], buf))
+        Ok(put_string(TO_BOOTLOADER, &frame[..n], buf))
     }
 }
 
 // The string of the start and the bytes at the buffer's front, and its length.
+#[tactic(auto, using(crate::proofs::Spelling::length_strung))]
 fn put_string(start: &[u8], bytes: &[u8], buf: &mut [u8]) -> usize
     requires { length start.now + 3 * length bytes.now + 2 ≤ length buf.old }
     ensures result { result ≡ length (strung start.now bytes.now) }
     ensures after { buf.new ≡ strung start.now bytes.now ++ drop (length (strung start.now bytes.now)) buf.old }
 {
     let from = start.len();
-    buf[0..from].copy_from_slice(start);
-    let end = spell(bytes, buf, from);
+    let end = from + 3 * bytes.len();
+    buf[..from].copy_from_slice(start);
+    spell(bytes, &mut buf[from..end]);
     buf[end..end + 2].copy_from_slice(STOP);
     end + 2
 }
 
-// The bytes, each as two digits and a space, into the buffer from a place on; the place after them.
-fn spell(bytes: &[u8], buf: &mut [u8], from: usize) -> usize
-    requires { from + 3 * length bytes.now ≤ length buf.old }
-    ensures result { result ≡ from + 3 * length bytes.now }
-    ensures after { buf.new ≡ (take from buf.old ++ flat_map spelled bytes.now) ++ drop (from + 3 * length bytes.now) buf.old }
+// The bytes, each as two digits and a space, which fill the buffer. By index: nothing is known of what `chunks_exact_mut` wrote.
+fn spell(bytes: &[u8], buf: &mut [u8])
+    requires { length buf.old ≡ 3 * length bytes.now }
+    ensures { buf.new ≡ flat_map spelled bytes.now }
 {
-    let mut at = from;
-    for b in bytes {
-        buf[at..at + 3].copy_from_slice(&in_digits(*b));
-        at += 3;
+    for (i, b) in bytes.iter().enumerate() {
+        buf[3 * i..3 * i + 3].copy_from_slice(&in_digits(*b));
     }
-    at
 }
 
 // A byte as two digits and a space.
@@ -82,6 +80,7 @@ fn in_digits(b: u8) -> [u8; 3]
 }
 
 // A digit of base 16, capital from ten on.
+#[tactic(auto, unfolding(checksum::specs::Capitals::capital))]
 fn digit(value: u8) -> u8
     requires { value < 16 }
     ensures { result ≡ capital value }

@@ -1,6 +1,7 @@
 -- Proofs of a cable's laws. Assumes nothing.
-use Rattle.std.proofs.Common.{◌≡◌, ℕ, Bool, true, false, cond, ltb, List, [], ◌∷◌, get_or, refl, ap, ◌∙◌}
+use Rattle.std.proofs.Common.{◌≡◌, ℕ, Bool, true, List, [], ◌∷◌, refl, ap, ◌∙◌, arith}
 use Rattle.std.proofs.lemmas.Bool.{and_parts}
+use Rattle.std.proofs.lemmas.Bool.Decides.{nat_tests}
 use Rattle.sensor.specs.Exchanges.{Exchange, Answer, Outcome, sized}
 use Rattle.sensor.specs.Machines.{Machine}
 use Rattle.cable.specs.declared.entry.Entry.{Entry}
@@ -8,7 +9,7 @@ use Rattle.cable.specs.declared.entry.Entry.TheVariants.{Clean}
 use Rattle.cable.specs.Entries.{Cabled, entry_at, past, carried, stepped}
 use Rattle.cable.specs.Cabled.{cabled}
 use Rattle.sensor.specs.Runs.{answers, after}
-use Rattle.cable.specs.Laws.{over, all_sized, AllClean, CleanAsBelow, LostLeaves, UnheardArrives, OffSizeLeaves}
+use Rattle.cable.specs.Laws.{over, all_sized, AllClean, CleanAsBelow}
 
 -- an exchange that takes this entry
 abbrev takes : {S : Type 0} → List Entry → S → ℕ → Outcome S → Entry → Outcome (Cabled S)
@@ -27,7 +28,8 @@ taken {S} m entries under at e entry fits here =
 
 clean_entry : (entries : List Entry) → AllClean entries → (at : ℕ) → entry_at entries at ≡ Clean
 clean_entry entries clean at =
-    elim (ltb at 64) as (λ b. cond b (get_or entries at Clean) Clean ≡ Clean) [ true ↦ clean at | false ↦ refl ]
+    let here = clean at in
+    grind (arith, nat_tests)
 
 clean_from :
     {S : Type 0} (m : Machine S) (entries : List Entry)
@@ -48,13 +50,3 @@ clean_from {S} m entries clean under at (e ∷ es) fit =
 
 pub clean : {S : Type 0} (m : Machine S) (entries : List Entry) → CleanAsBelow m entries
 clean m entries h under es fit = clean_from m entries h under 0 es fit
-
-pub lost : {S : Type 0} (m : Machine S) (entries : List Entry) → LostLeaves m entries
-lost m entries under at e fits here = taken m entries under at e _ fits here
-
-pub unheard : {S : Type 0} (m : Machine S) (entries : List Entry) → UnheardArrives m entries
-unheard m entries under at e fits here = taken m entries under at e _ fits here
-
-pub off_size : {S : Type 0} (m : Machine S) (entries : List Entry) → OffSizeLeaves m entries
-off_size m entries under at e other =
-    ap (λ (b : Bool). stepped b (over entries under at) (m.step under e)) other

@@ -12,7 +12,7 @@ mod carry;
 pub struct Cable<L> {
     link: L,
     entries: [Entry; 64],
-    // How many entries are used up.
+    // How many entries are used up: an iterator would borrow what the cable holds.
     at: usize,
 }
 
@@ -44,12 +44,7 @@ impl<L: Link> Cable<L> {
     pub fn into_link(self) -> L
         ensures { result ≡ self.link }
     {
-        let Cable {
-            link,
-            entries: _,
-            at: _,
-        } = self;
-        link
+        self.link
     }
 
     // How many entries are used up.

@@ -5,14 +5,15 @@ use Rattle.std.proofs.lemmas.Bool.{le-ltb, lt-ltb, or_left, or_right, cases_lt}
 use Rattle.std.specs.List.{flat_map, AllByRecursion}
 use Rattle.checksum.specs.Outcomes.{and_then}
 use Rattle.hexline.specs.declared.fault.TextFault.{TextFault}
-use Rattle.hexline.specs.Faults.{decided}
+use Rattle.hexline.specs.Faults.{decided, spot}
 use Rattle.hexline.specs.Digits.{pair_value, pairs}
 use Rattle.hexline.specs.Lines.{data_is, end_is, base_is, line_of}
 use Rattle.ihex.specs.declared.reads.Seen.{Seen}
 use Rattle.ihex.specs.Texts.{TextLine, lines_of}
 use Rattle.ihex.specs.Reads.{longest_text, seen_next, nothing_seen, rules_beside, lines_kept, text_of}
 use Rattle.ihex.specs.Named.{data_in, data_lines}
-use Rattle.ihex.proofs.Steps.{line_at, step_data, step_end, step_base, kept_from, kept_none, kept_more, kept_is}
+use Rattle.ihex.proofs.Cuts.{line_at}
+use Rattle.ihex.proofs.Steps.{step_data, step_end, step_base, kept_from, kept_none, kept_more, kept_is}
 use Rattle.ihex.proofs.Walked.{walk_skips, walk_finds}
 use Rattle.checksum.specs.Capitals.{capital}
 use Rattle.canonical.specs.Canonical.{two_digits, CanonicalLine, line_chars, line_text, DataSpec, data_line, base_line, end_line, canonical_lines, canonical_text, end_of, Holds, Ascending, Canonical, data_spec, ReadsBack}
@@ -31,7 +32,7 @@ data_holds d h = record { kind_fits = omega arith; address_fits = h.starts; few 
 
 -- what is said after the base line, up to the end line
 abbrev under : Bool → ℕ → ℕ → ℕ → Seen
-under names top line place = record { upper = 0x2000; top = top; names = names; ended = false; line = line; place = place }
+under names top line place = record { upper = 0x2000; top = top; names = names; ended = false; at = spot line place }
 
 module _ (n p : ℕ) where
   base_read : (d : List ℕ) × (line_of n p (line_chars base_line) ≡ Ok (base_is 0x2000 d n p))
@@ -90,7 +91,7 @@ later_kept : (ds : List DataSpec) (names : Bool) (top line place n p : ℕ) → 
 unfolding placed_lines
 later_kept [] names top line place n p hs up some =
     let s = under names top line place in
-    let last : Seen = record { upper = 0x2000; top = top; names = names; ended = true; line = n; place = p } in
+    let last : Seen = record { upper = 0x2000; top = top; names = names; ended = true; at = spot n p } in
     let named : names ≡ true = elim some [ inl e ↦ e | inr lt ↦ absurd (omega arith) ] in
     (last, kept_on s last (line_at n p (line_chars end_line)) [] (sym (step_end s n p (line_chars end_line) refl [] n p (end_read n p))) ∙ kept_none last, refl, named)
 later_kept (d ∷ ds) names top line place n p hs up some =

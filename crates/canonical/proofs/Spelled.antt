@@ -1,17 +1,14 @@
 -- Bytes as capital digits, and back. Assumes nothing.
-use Rattle.std.proofs.Common.{◌≡◌, ℕ, ◌+◌, ◌-◌, ◌*◌, ◌/◌, ◌%◌, ◌<◌, ◌≤◌, true, false, ltb, leb, List, [], ◌∷◌, ◌++◌, length, take, Some, unwrap_or, refl, ap, ◌∙◌, inl, inr, arith}
+use Rattle.std.proofs.Common.{◌≡◌, ℕ, ◌+◌, ◌-◌, ◌*◌, ◌/◌, ◌%◌, ◌<◌, ◌≤◌, true, false, ltb, List, [], ◌∷◌, ◌++◌, length, take, Some, unwrap_or, refl, ap, ◌∙◌, inl, inr, arith}
+use Rattle.std.proofs.lemmas.Grind.{flat_map-append}
 use Rattle.std.proofs.lemmas.List.{take_at}
-use Rattle.std.proofs.lemmas.Bool.{lt-ltb, le-ltb, le-leb, lt-leb, and_from, and_right, cond_both, cases_lt}
+use Rattle.std.proofs.lemmas.Bool.{lt-ltb, le-ltb, cond_both, cases_lt}
 use Rattle.std.specs.List.{flat_map, prefix_len, AllByRecursion}
-use Rattle.hexline.specs.Digits.{within, digit_of, is_digit, pair_value, pairs}
+use Rattle.checksum.specs.Ranges.{within}
+use Rattle.checksum.proofs.Ranges.{within_from, above_none}
+use Rattle.hexline.specs.Digits.{digit_of, is_digit, pair_value, pairs}
 use Rattle.checksum.specs.Capitals.{capital}
 use Rattle.canonical.specs.Canonical.{two_digits}
-
-in_range : (a b n : ℕ) → a ≤ n → n ≤ b → within a b n ≡ true
-in_range a b n low high = and_from (leb a n) (leb n b) (le-leb a n low) (le-leb n b high)
-
-above_range : (a b n : ℕ) → b < n → within a b n ≡ false
-above_range a b n past = and_right (leb a n) (leb n b) (lt-leb n b past)
 
 -- a capital digit stands for its value
 digit_of_capital : (v : ℕ) → v < 16 → digit_of (capital v) ≡ Some v
@@ -19,12 +16,12 @@ unfolding capital
 digit_of_capital v small =
     elim (cases_lt v 10) [
       | inl low ↦
-          let decimal : within 48 57 (48 + v) ≡ true = in_range 48 57 (48 + v) (omega arith) (omega arith) in
+          let decimal : within 48 57 (48 + v) ≡ true = within_from 48 57 (48 + v) (omega arith) (omega arith) in
           let back : 48 + v - 48 ≡ v = omega arith in
           rw (lt-ltb v 10 low, decimal, back)
       | inr high ↦
-          let past : within 48 57 (55 + v) ≡ false = above_range 48 57 (55 + v) (omega arith) in
-          let letter : within 65 70 (55 + v) ≡ true = in_range 65 70 (55 + v) (omega arith) (omega arith) in
+          let past : within 48 57 (55 + v) ≡ false = above_none 48 57 (55 + v) (omega arith) in
+          let letter : within 65 70 (55 + v) ≡ true = within_from 65 70 (55 + v) (omega arith) (omega arith) in
           let back : 55 + v - 55 ≡ v = omega arith in
           rw (le-ltb v 10 high, past, letter, back)
     ]
@@ -45,13 +42,8 @@ pub length_digits : (bs : List ℕ) → length (flat_map two_digits bs) ≡ 2 * 
 length_digits [] = refl
 length_digits (b ∷ bs) = let e = length_digits bs in omega arith
 
-pub digits_append : (xs ys : List ℕ) → flat_map two_digits (xs ++ ys) ≡ flat_map two_digits xs ++ flat_map two_digits ys
-digits_append [] ys = refl
-digits_append (x ∷ xs) ys = ap (λ ds. two_digits x ++ ds) (digits_append xs ys)
-
--- the digits of the first bytes
 pub take_digits : (xs ys : List ℕ) → take (2 * length xs) (flat_map two_digits (xs ++ ys)) ≡ flat_map two_digits xs
-take_digits xs ys = ap (take (2 * length xs)) (digits_append xs ys) ∙ take_at (flat_map two_digits xs) (flat_map two_digits ys) (2 * length xs) (length_digits xs)
+take_digits xs ys = ap (take (2 * length xs)) (flat_map-append two_digits xs ys) ∙ take_at (flat_map two_digits xs) (flat_map two_digits ys) (2 * length xs) (length_digits xs)
 
 pub all_digits : (bs : List ℕ) → Bytes bs → prefix_len is_digit (flat_map two_digits bs) ≡ length (flat_map two_digits bs)
 all_digits [] h = refl

@@ -5,7 +5,7 @@ use Rattle.std.proofs.lemmas.List.{append_assoc, length-append, length_push, get
 use Rattle.std.proofs.lemmas.Bool.{ne_eqb}
 use Rattle.std.specs.List.{AllByRecursion}
 use Rattle.ihex.specs.Texts.{TextLine, stretches, trimmed, placed, lines_of}
-use Rattle.ihex.proofs.Cuts.{stretch, line_at, no_stretch, first_cut}
+use Rattle.ihex.proofs.Cuts.{stretch, line_at, no_lines, first_cut}
 use Rattle.canonical.specs.Canonical.{CanonicalLine, line_chars, line_text, lines_text}
 use Rattle.canonical.proofs.OneLine.{chars_high, chars_some}
 
@@ -28,7 +28,7 @@ module _ (cs rest : List ℕ) (high : AllByRecursion (λ c. 48 ≤ c) cs) where
 
 pub placed_lines_lem : (n p : ℕ) (ls : List CanonicalLine) → placed n p (stretches (lines_text ls)) ≡ placed_lines n p ls
 unfolding placed placed_lines
-placed_lines_lem n p [] = ap (placed n p) no_stretch
+placed_lines_lem n p [] = no_lines n p [] refl
 placed_lines_lem n p (l ∷ ls) =
     let size : p + (length (line_chars l) + 1) ≡ p + length (line_text l) = omega (arith, length_push (line_chars l) 10) in
     ap (placed n p) (stretch_first (line_chars l) (lines_text ls) (chars_high l))

@@ -1,1 +1,3 @@
-pub mod Joins
+pub mod Passing
+pub mod Ranges
+pub mod Wrapping

@@ -8,9 +8,7 @@ ghost use Rattle.checksum.specs.Sums.{sum256};
 pub fn sum(bytes: &[u8]) -> u8
     ensures { result ≡ sum256 bytes.now }
 {
-    let mut total: u8 = 0;
-    for b in bytes {
-        total = total.wrapping_add(*b);
-    }
-    total
+    bytes
+        .iter()
+        .fold(0, |total: u8, byte| total.wrapping_add(*byte))
 }

@@ -1,17 +1,28 @@
 -- Bytes stored one after another. Assumes nothing.
-use Rattle.std.proofs.Common.{◌≡◌, ℕ, ◌+◌, ◌<◌, ◌≤◌, List, length, get_or, drop, set, sym, ap, ◌∙◌, add-one}
-use lib.Seq.{sets}
-use Rattle.std.proofs.lemmas.List.{at_drop_more, at_drop_all}
+use Rattle.std.proofs.Common.{◌≡◌, ℕ, zero, suc, ◌-◌, ◌≤◌, List, [], ◌∷◌, length, take, set, min, refl, sym, arith}
+use lib.Seq.{sets, sets-eq, set_out}
+use borrow.Rule.Slice.PartMut.{put_mid}
+use Rattle.std.proofs.lemmas.Grind.{common_steps}
 
--- one byte more is stored
-pub store_more :
-    (ram bytes now : List ℕ) (at i : ℕ) → i < length bytes → now ≡ set ram at (get_or bytes i 0)
-    → sets now (at + 1) (drop (i + 1) bytes) ≡ sets ram at (drop i bytes)
-store_more ram bytes now at i h is =
-    ap (λ (l : List ℕ). sets l (at + 1) (drop (i + 1) bytes)) is
-    ∙ ap (λ (n : ℕ). sets (set ram at (get_or bytes i 0)) n (drop (i + 1) bytes)) (add-one at)
-    ∙ sym (at_drop_more (sets ram at) bytes i 0 h)
+-- past the end nothing is stored
+pub stored_out : (bytes ram : List ℕ) (from : ℕ) → length ram ≤ from → sets ram from bytes ≡ ram
+stored_out [] ram from h = refl
+stored_out (b ∷ bs) ram from h = grind (arith, set_out, stored_out bs ram (suc from))
 
--- all are stored
-pub store_all : (ram bytes : List ℕ) (at i : ℕ) → length bytes ≤ i → sets ram at (drop i bytes) ≡ ram
-store_all ram bytes at i h = at_drop_all (sets ram at) bytes i h
+-- as many are stored as there is room for
+stored_room : (count : ℕ) (bytes ram : List ℕ) (from : ℕ) → min (length bytes) (length ram - from) ≤ count → sets ram from (take count bytes) ≡ sets ram from bytes
+stored_room zero [] ram from h = refl
+stored_room zero (b ∷ bs) ram from h = sym (stored_out (b ∷ bs) ram from (omega arith))
+stored_room (suc n) [] ram from h = refl
+stored_room (suc n) (b ∷ bs) ram from h = grind (arith, common_steps, stored_room n bs (set ram from b) (suc from))
+
+-- those stand in the place of what they replace
+pub stored :
+    (bytes ram part : List ℕ) (from count size : ℕ)
+    → from ≤ length ram
+    → count ≡ min (length bytes) (length ram - from)
+    → size ≡ count
+    → part ≡ take count bytes
+    → put_mid from size ram part ≡ sets ram from bytes
+stored bytes ram part from count size within is size_is part_is =
+    grind (arith, common_steps, stored_room, sets-eq)

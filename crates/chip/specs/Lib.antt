@@ -1,2 +1,5 @@
 pub mod Chips
+pub mod Commanded
 pub mod Faults
+pub mod Lending
+pub mod Refusals

@@ -4,10 +4,11 @@ ghost use Rattle.chip.specs.Faults.{number_of, words_of, ram_checked};
 
 use std::fmt;
 
+// Each has the number under which it is reported.
 #[derive(Clone, Copy, PartialEq, Eq, Debug)]
 pub enum RamFault {
     // The lent RAM has not as many bytes as the kind's window.
-    WrongSize,
+    WrongSize = 29,
 }
 
 impl RamFault {
@@ -15,9 +16,7 @@ impl RamFault {
     pub fn number(&self) -> u8
         ensures { result ≡ number_of self.now }
     {
-        match self {
-            RamFault::WrongSize => 29,
-        }
+        *self as u8
     }
 
     // The fault in words.
@@ -38,6 +37,8 @@ impl fmt::Display for RamFault {
         f.pad(self.words())
     }
 }
+
+impl std::error::Error for RamFault {}
 
 // What comes back where a sensor is not made: why, and the lent RAM.
 #[derive(Drop)]

@@ -3,8 +3,12 @@
 
 mod fault;
 mod lent;
+mod refusal;
+mod reply;
 mod state;
 
 pub use fault::{RamFault, Refused, check_ram};
 pub use lent::Chip;
+pub use refusal::{Refusal, Unable};
+pub use reply::status_reply;
 pub use state::State;

@@ -1,12 +1,12 @@
 // A sensor's state, apart from its RAM.
 use sensor::Stage;
 
-#[derive(Clone, Copy, Debug)]
+#[derive(Clone, Copy, PartialEq, Eq, Debug)]
 pub struct State {
     // Where the next bytes are written.
     pub pointer: u32,
     pub stage: Stage,
-    // 0, or the reason why the last frame was refused.
+    // The byte that a status reply shows: 0, or the reason why the last frame was refused.
     pub status: u8,
     // It starts from its RAM.
     pub remapped: bool,

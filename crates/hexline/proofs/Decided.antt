@@ -1,5 +1,5 @@
 -- Rules, of which the first that is broken decides. Assumes nothing.
-use Rattle.std.proofs.Common.{◌≡◌, ℕ, true, false, cond, List, [], ◌∷◌, ◌++◌, Ok, Err, refl, arith}
+use Rattle.std.proofs.Common.{◌≡◌, true, false, cond, List, [], ◌∷◌, ◌++◌, Ok, Err, refl}
 use Rattle.std.specs.List.{AllByRecursion}
 use Rattle.checksum.specs.Outcomes.{and_then}
 use Rattle.hexline.specs.declared.fault.TextFault.{TextFault}
@@ -15,28 +15,22 @@ decided_append (r ∷ rs) qs x =
 pub decided_ok : {X : Type 0} (rs : List Rule) (x y : X) → decided rs x ≡ Ok y → x ≡ y
 decided_ok [] x y h = cc
 decided_ok (r ∷ rs) x y h =
-    elim r.broken as (λ b. cond b (Err r.fault) (decided rs x) ≡ Ok y → x ≡ y) [ true ↦ (λ k. let z : ◌≡◌ {A = ℕ} 0 1 = cc in absurd (omega arith)) | false ↦ decided_ok rs x y ] h
-
--- a fault does not depend on the value that would have come
-pub decided_err : {X Y : Type 0} (rs : List Rule) (x : X) (y : Y) (f : TextFault) → decided rs x ≡ Err f → decided rs y ≡ Err f
-decided_err [] x y f h = let z : ◌≡◌ {A = ℕ} 0 1 = cc in absurd (omega arith)
-decided_err (r ∷ rs) x y f h =
-    elim r.broken as (λ b. cond b (Err r.fault) (decided rs x) ≡ Err f → cond b (Err r.fault) (decided rs y) ≡ Err f) [ true ↦ (λ k. cc) | false ↦ decided_err rs x y f ] h
+    elim r.broken as (λ b. cond b (Err r.fault) (decided rs x) ≡ Ok y → x ≡ y) [ true ↦ (λ k. cc) | false ↦ decided_ok rs x y ] h
 
 -- where a value comes, every rule is kept
 pub decided_kept : {X : Type 0} (rs : List Rule) (x y : X) → decided rs x ≡ Ok y → AllByRecursion (λ r. r.broken ≡ false) rs
 decided_kept [] x y h = tt
 decided_kept (r ∷ rs) x y h =
-    elim r.broken as (λ b. cond b (Err r.fault) (decided rs x) ≡ Ok y → (b ≡ false) × AllByRecursion (λ q. q.broken ≡ false) rs) [ true ↦ (λ k. let z : ◌≡◌ {A = ℕ} 0 1 = cc in absurd (omega arith)) | false ↦ (λ k. (refl, decided_kept rs x y k)) ] h
+    elim r.broken as (λ b. cond b (Err r.fault) (decided rs x) ≡ Ok y → (b ≡ false) × AllByRecursion (λ q. q.broken ≡ false) rs) [ true ↦ (λ k. cc) | false ↦ (λ k. (refl, decided_kept rs x y k)) ] h
 
 -- some rules kept, the others decide
 pub decided_past : {X Y : Type 0} (rs qs : List Rule) (x : X) (y v : Y) → decided rs y ≡ Ok v → decided (rs ++ qs) x ≡ decided qs x
 decided_past [] qs x y v h = refl
 decided_past (r ∷ rs) qs x y v h =
-    elim r.broken as (λ b. cond b (Err r.fault) (decided rs y) ≡ Ok v → cond b (Err r.fault) (decided (rs ++ qs) x) ≡ decided qs x) [ true ↦ (λ k. let z : ◌≡◌ {A = ℕ} 0 1 = cc in absurd (omega arith)) | false ↦ decided_past rs qs x y v ] h
+    elim r.broken as (λ b. cond b (Err r.fault) (decided rs y) ≡ Ok v → cond b (Err r.fault) (decided (rs ++ qs) x) ≡ decided qs x) [ true ↦ (λ k. cc) | false ↦ decided_past rs qs x y v ] h
 
 -- one of them broken, it decides
 pub decided_stop : {X Y : Type 0} (rs qs : List Rule) (x : X) (y : Y) (f : TextFault) → decided rs y ≡ Err f → decided (rs ++ qs) x ≡ Err f
-decided_stop [] qs x y f h = let z : ◌≡◌ {A = ℕ} 0 1 = cc in absurd (omega arith)
+decided_stop [] qs x y f h = cc
 decided_stop (r ∷ rs) qs x y f h =
     elim r.broken as (λ b. cond b (Err r.fault) (decided rs y) ≡ Err f → cond b (Err r.fault) (decided (rs ++ qs) x) ≡ Err f) [ true ↦ (λ k. cc) | false ↦ decided_stop rs qs x y f ] h

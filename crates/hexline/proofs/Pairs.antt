@@ -1,7 +1,8 @@
 -- Digits taken two by two. Assumes nothing.
-use Rattle.std.proofs.Common.{◌≡◌, ℕ, zero, suc, ◌+◌, ◌*◌, ◌/◌, ◌%◌, ◌<◌, List, [], ◌∷◌, ◌++◌, length, get_or, take, drop, set, sum, sym, refl, ap, ◌∙◌, arith}
+use Rattle.std.proofs.Common.{◌≡◌, ℕ, zero, suc, ◌+◌, ◌*◌, ◌/◌, ◌<◌, List, [], ◌∷◌, ◌++◌, length, get_or, take, drop, set, sym, refl, ap, ◌∙◌, arith}
 use Rattle.std.proofs.lemmas.List.{append_assoc, drop_more, take_more, set_at, length-take-le}
-use Rattle.std.proofs.lemmas.List.Sums.{sum_by-cons}
+use Rattle.std.proofs.lemmas.List.FromFn.{length-enumerate_from, get_or-enumerate_from}
+use Rattle.std.specs.List.{enumerate_from}
 use Rattle.hexline.specs.Digits.{pair_value, pairs}
 
 -- the byte at k is made of the digits at 2k and 2k + 1
@@ -40,23 +41,30 @@ pairs_none [] h = refl
 pairs_none (a ∷ []) h = refl
 pairs_none (a ∷ b ∷ xs) h = absurd (omega arith)
 
--- one pair more in the sum
-pub sum_more : (total byte goal : ℕ) (xs rest : List ℕ) → 1 < length xs → byte ≡ pair_value (get_or xs 0 0) (get_or xs 1 0) → rest ≡ drop 2 xs → (total + sum (pairs xs)) % 256 ≡ goal → ((total + byte) % 256 + sum (pairs rest)) % 256 ≡ goal
-sum_more total byte goal xs rest two is tail inv =
-    let first : sum (pairs xs) ≡ byte + sum (pairs rest) = ap sum (pairs_first xs two) ∙ sum_by-cons (λ x. x) _ (pairs (drop 2 xs)) ∙ rw (is, tail) in
-    omega arith
+pub pairs_take : (n : ℕ) (xs : List ℕ) → pairs (take (2 * n) xs) ≡ take n (pairs xs)
+unfolding pairs
+pairs_take zero xs = refl
+pairs_take (suc n) [] = let e : 2 * suc n ≡ suc (suc (2 * n)) = omega arith in rw e
+pairs_take (suc n) (a ∷ []) = let e : 2 * suc n ≡ suc (suc (2 * n)) = omega arith in rw e
+pairs_take (suc n) (a ∷ b ∷ xs) = let e : 2 * suc n ≡ suc (suc (2 * n)) = omega arith in rw e (ap (λ ys. pair_value a b ∷ ys) (pairs_take n xs))
 
-pub sum_whole : (total goal : ℕ) (rest : List ℕ) → total < 256 → length rest < 2 → (total + sum (pairs rest)) % 256 ≡ goal → total ≡ goal
-sum_whole total goal rest small short inv =
-    let none : sum (pairs rest) ≡ 0 = ap sum (pairs_none rest short) in
-    omega arith
+pub pairs_drop : (n : ℕ) (xs : List ℕ) → pairs (drop (2 * n) xs) ≡ drop n (pairs xs)
+unfolding pairs
+pairs_drop zero xs = refl
+pairs_drop (suc n) [] = let e : 2 * suc n ≡ suc (suc (2 * n)) = omega arith in rw e
+pairs_drop (suc n) (a ∷ []) = let e : 2 * suc n ≡ suc (suc (2 * n)) = omega arith in rw e
+pairs_drop (suc n) (a ∷ b ∷ xs) = let e : 2 * suc n ≡ suc (suc (2 * n)) = omega arith in rw e (pairs_drop n xs)
+
+-- what `enumerate` gives at its turn
+pub turn_is : (bs : List ℕ) (k i b : ℕ) → k < length (enumerate_from 0 bs) → ◌≡◌ {A = ℕ × ℕ} (i, b) (get_or (enumerate_from 0 bs) k (i, b)) → (k < length bs) × (i ≡ k) × (b ≡ get_or bs k b)
+turn_is bs k i b lt is =
+    let short : k < length bs = omega (arith, length-enumerate_from 0 bs) in
+    let e : ◌≡◌ {A = ℕ × ℕ} (i, b) (k, get_or bs k b) = is ∙ get_or-enumerate_from 0 bs k (i, b) short ∙ ap (λ (n : ℕ). (n, get_or bs k b)) (omega arith) in
+    (short, ap (λ (p : ℕ × ℕ). p.0) e, ap (λ (p : ℕ × ℕ). p.1) e)
 
 -- one byte more at the front of a row
-module _ (digits row now : List ℕ) (i : ℕ) where
-  pub filled_more : (b : ℕ) → i < length digits / 2 → i < length row → b ≡ pair_value (get_or digits (2 * i) 0) (get_or digits (2 * i + 1) 0) → now ≡ take i (pairs digits) ++ drop i row → set now i b ≡ take (i + 1) (pairs digits) ++ drop (i + 1) row
-  filled_more b lt room is inv =
-      let long = length_pairs digits in
-      let byte : b ≡ get_or (pairs digits) i 0 = is ∙ sym (get_or_pairs i digits (omega arith)) in
-      ap (λ xs. set xs i b) (inv ∙ ap (λ d. take i (pairs digits) ++ d) (drop_more row i 0 room))
-      ∙ set_at (take i (pairs digits)) (get_or row i 0) (drop (i + 1) row) b i (length-take-le i (pairs digits) (omega arith))
-      ∙ rw byte (sym (append_assoc (take i (pairs digits)) (get_or (pairs digits) i 0 ∷ []) (drop (i + 1) row)) ∙ ap (λ xs. xs ++ drop (i + 1) row) (sym (take_more (pairs digits) i 0 (omega arith))))
+pub filled_more : (bytes row now : List ℕ) (i b : ℕ) → i < length bytes → i < length row → b ≡ get_or bytes i 0 → now ≡ take i bytes ++ drop i row → set now i b ≡ take (i + 1) bytes ++ drop (i + 1) row
+filled_more bytes row now i b lt room is inv =
+    ap (λ xs. set xs i b) (inv ∙ ap (λ d. take i bytes ++ d) (drop_more row i 0 room))
+    ∙ set_at (take i bytes) (get_or row i 0) (drop (i + 1) row) b i (length-take-le i bytes (omega arith))
+    ∙ rw is (sym (append_assoc (take i bytes) (get_or bytes i 0 ∷ []) (drop (i + 1) row)) ∙ ap (λ xs. xs ++ drop (i + 1) row) (sym (take_more bytes i 0 lt)))

@@ -1,10 +1,12 @@
 -- What a line that is read says of its digits. Assumes nothing.
-use Rattle.std.proofs.Common.{◌≡◌, ℕ, ◌+◌, ◌-◌, ◌*◌, ◌/◌, ◌<◌, ◌≤◌, min, true, false, cond, not, ◌||◌, eqb, ltb, leb, List, ◌++◌, length, get_or, take, drop, Some, None, Ok, Err, unwrap_or, sym, refl, ap, ◌∙◌, subst, inl, inr, arith}
+use Rattle.std.proofs.Common.{◌≡◌, ℕ, ◌+◌, ◌-◌, ◌*◌, ◌/◌, ◌<◌, ◌≤◌, min, true, false, cond, not, ◌||◌, eqb, ltb, List, ◌++◌, length, get_or, take, drop, Some, None, Ok, Err, unwrap_or, sym, refl, ap, ◌∙◌, subst, inl, inr, arith}
 use Rattle.std.proofs.lemmas.List.{length-take, take_at, take_all, length-drop, length-append}
-use Rattle.std.proofs.lemmas.Bool.{leb-true, and_parts, eq-eqb, eqb-true, cases_lt, not-false, or_parts}
+use Rattle.std.proofs.lemmas.Bool.{eq-eqb, eqb-true, cases_lt, not-false, or_parts}
 use Rattle.checksum.specs.Outcomes.{and_then}
 use Rattle.hexline.specs.declared.fault.TextFault.{TextFault}
-use Rattle.hexline.specs.Digits.{within, pairs, pair_value, hex_value}
+use Rattle.checksum.specs.Ranges.{within}
+use Rattle.checksum.proofs.Ranges.{within_parts}
+use Rattle.hexline.specs.Digits.{pairs, pair_value, hex_value}
 use Rattle.hexline.specs.Records.{lacks_digits, known_type, count_on, address_on, type_on, upper_on, data_digits}
 use Rattle.hexline.specs.Faults.{decided}
 use Rattle.hexline.specs.Lines.{single_line, LineIs, digits_in, data_is, end_is, base_is, start_is, form_rules, type_rules, line_rules, case_of, line_of}
@@ -35,9 +37,6 @@ module _ (ln p : ℕ) (chars : List ℕ) where
   pub line_digits : (l : LineIs) → line_of ln p chars ≡ Ok l → digits_in l ≡ data_digits chars
   unfolding line_of
   line_digits l h = sym (ap digits_in (decided_ok (line_rules ln p chars) (case_of ln p chars) l h)) ∙ case_digits
-
-within_high : (a b c : ℕ) → within a b c ≡ true → c ≤ b
-within_high a b c e = leb-true c b (and_parts (leb a c) (leb c b) e).1
 
 -- what a case says of the line's type and fields
 abbrev pub CaseFacts : List ℕ → LineIs → Type 0
@@ -78,10 +77,10 @@ module _ (ln p : ℕ) (chars : List ℕ) where
 pub hex_value_small : (c : ℕ) → hex_value c < 16
 hex_value_small c =
     elim (within 48 57 c) as (λ a. within 48 57 c ≡ a → unwrap_or (cond a (Some (c - 48)) (cond (within 65 70 c) (Some (c - 55)) (cond (within 97 102 c) (Some (c - 87)) None))) 0 < 16) [
-      | true ↦ (λ e. omega (arith, within_high 48 57 c e))
+      | true ↦ (λ e. omega (arith, (within_parts 48 57 c e).1))
       | false ↦ (λ _. elim (within 65 70 c) as (λ a. within 65 70 c ≡ a → unwrap_or (cond a (Some (c - 55)) (cond (within 97 102 c) (Some (c - 87)) None)) 0 < 16) [
-        | true ↦ (λ e. omega (arith, within_high 65 70 c e))
-        | false ↦ (λ _. elim (within 97 102 c) as (λ a. within 97 102 c ≡ a → unwrap_or (cond a (Some (c - 87)) None) 0 < 16) [ true ↦ (λ e. omega (arith, within_high 97 102 c e)) | false ↦ (λ _. omega arith) ] refl)
+        | true ↦ (λ e. omega (arith, (within_parts 65 70 c e).1))
+        | false ↦ (λ _. elim (within 97 102 c) as (λ a. within 97 102 c ≡ a → unwrap_or (cond a (Some (c - 87)) None) 0 < 16) [ true ↦ (λ e. omega (arith, (within_parts 97 102 c e).1)) | false ↦ (λ _. omega arith) ] refl)
       ] refl)
     ] refl
 

@@ -1,10 +1,7 @@
 -- Digits, and the bytes that pairs of them stand for. Assumes nothing.
-use Rattle.std.specs.Prelude.{ℕ, ◌+◌, ◌-◌, ◌*◌, Bool, cond, ◌&&◌, List, [], ◌∷◌, is_some, Some, None, Option, nat_le}
+use Rattle.std.specs.Prelude.{ℕ, ◌+◌, ◌-◌, ◌*◌, Bool, cond, List, [], ◌∷◌, is_some, Some, None, Option}
 use Rattle.std.specs.Option.{unwrap_or}
-
--- n lies from a to b
-abbrev pub within : ℕ → ℕ → ℕ → Bool
-within a b n = nat_le a n && nat_le n b
+use Rattle.checksum.specs.Ranges.{within}
 
 -- '0' to '9', 'A' to 'F' and 'a' to 'f' are digits
 abbrev pub digit_of : ℕ → Option ℕ

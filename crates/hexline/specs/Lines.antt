@@ -4,7 +4,7 @@ use Rattle.hexline.specs.declared.fault.TextFault.{TextFault}
 use Rattle.hexline.specs.declared.fault.TextFault.TheVariants.{NoColon, NoDigit, WrongLength, WrongSum, UnknownType, WrongShape, RowLength}
 use Rattle.hexline.specs.declared.line.Line.{Line}
 use Rattle.hexline.specs.declared.line.Line.TheVariants.{Data, End, Base, Start}
-use Rattle.hexline.specs.Faults.{Rule, rule, decided}
+use Rattle.hexline.specs.Faults.{Rule, rule, decided, spot}
 use Rattle.hexline.specs.Records.{address_on, type_on, data_digits, upper_on, stray_on, lacks_colon, has_stray, lacks_digits, sums_wrong, known_type, misshapen}
 
 -- a line's case, with the data digits themselves in place of where they lie
@@ -15,10 +15,10 @@ pub data LineIs : Type 0 where
   start_is : (digits : List ℕ) (line place : ℕ) → LineIs
 
 abbrev pub said_line : Line → LineIs
-said_line (Data a d ln p) = data_is a d.now ln p
-said_line (End d ln p) = end_is d.now ln p
-said_line (Base u d ln p) = base_is u d.now ln p
-said_line (Start d ln p) = start_is d.now ln p
+said_line (Data a d at) = data_is a d.now at.line at.place
+said_line (End d at) = end_is d.now at.line at.place
+said_line (Base u d at) = base_is u d.now at.line at.place
+said_line (Start d at) = start_is d.now at.line at.place
 
 abbrev pub digits_in : LineIs → List ℕ
 digits_in (data_is a d ln p) = d
@@ -32,11 +32,11 @@ said (Err e) = Err e
 
 -- 11 to 14: whether the characters are a record at all
 abbrev pub form_rules : ℕ → ℕ → List ℕ → List Rule
-form_rules ln p chars = rule (lacks_colon chars) (NoColon ln p) ∷ (rule (has_stray chars) (NoDigit ln (p + stray_on chars)) ∷ (rule (lacks_digits chars) (WrongLength ln p) ∷ (rule (sums_wrong chars) (WrongSum ln p) ∷ [])))
+form_rules ln p chars = rule (lacks_colon chars) (NoColon (spot ln p)) ∷ (rule (has_stray chars) (NoDigit (spot ln (p + stray_on chars))) ∷ (rule (lacks_digits chars) (WrongLength (spot ln p)) ∷ (rule (sums_wrong chars) (WrongSum (spot ln p)) ∷ [])))
 
 -- 15 and 16: whether it is one that we know
 abbrev pub type_rules : ℕ → ℕ → List ℕ → List Rule
-type_rules ln p chars = rule (not (known_type (type_on chars))) (UnknownType ln p) ∷ (rule (misshapen chars) (WrongShape ln p) ∷ [])
+type_rules ln p chars = rule (not (known_type (type_on chars))) (UnknownType (spot ln p)) ∷ (rule (misshapen chars) (WrongShape (spot ln p)) ∷ [])
 
 abbrev pub line_rules : ℕ → ℕ → List ℕ → List Rule
 line_rules ln p chars = form_rules ln p chars ++ type_rules ln p chars

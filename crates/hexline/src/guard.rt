@@ -13,8 +13,7 @@ impl Drop for RowGuard<'_> {
         ensures { self.exit.0.now ≡ cleared self.entry.kept self.entry.row.now }
     {
         let RowGuard { row, kept } = self;
-        for i in kept..row.len() {
-            row[i] = 0;
-        }
+        let kept = kept.min(row.len());
+        row[kept..].fill(0);
     }
 }

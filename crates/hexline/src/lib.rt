@@ -6,9 +6,11 @@ mod fault;
 mod form;
 mod guard;
 mod line;
+mod spot;
 
 pub use digits::{decode, digit};
 pub use fault::TextFault;
 pub use form::{address_on, byte_on, data_digits};
 pub use guard::RowGuard;
 pub use line::{Line, read_line, sort_line};
+pub use spot::Spot;

@@ -9,36 +9,32 @@ use super::digits::{byte_at, decode};
 use super::fault::TextFault;
 use super::form::{address_on, byte_on, check_form, data_digits};
 use super::guard::RowGuard;
+use super::spot::Spot;
 
-// A line's case. Each holds its data digits as a part of the text, its line number from 1,
-// and the place of its first byte in the text, from 0.
+// A line's case. Each holds its data digits as a part of the text, and the spot of its first byte.
 #[derive(Clone, Copy)]
 pub enum Line<'t> {
     // bytes for the RAM, from the address on
     Data {
         address: u16,
         digits: &'t [u8],
-        line: usize,
-        place: usize,
+        at: Spot,
     },
     // the end of the text
     End {
         digits: &'t [u8],
-        line: usize,
-        place: usize,
+        at: Spot,
     },
     // the upper half of the addresses that follow
     Base {
         upper: u16,
         digits: &'t [u8],
-        line: usize,
-        place: usize,
+        at: Spot,
     },
     // a start address, which is ignored
     Start {
         digits: &'t [u8],
-        line: usize,
-        place: usize,
+        at: Spot,
     },
 }
 
@@ -48,17 +44,17 @@ impl<'t> Line<'t> {
         ensures { result.now ≡ digits_in (said_line self.now) }
     {
         match self {
-            Line::Data { digits, .. } => digits,
-            Line::End { digits, .. } => digits,
-            Line::Base { digits, .. } => digits,
-            Line::Start { digits, .. } => digits,
+            Line::Data { digits, .. }
+            | Line::End { digits, .. }
+            | Line::Base { digits, .. }
+            | Line::Start { digits, .. } => digits,
         }
     }
 }
 
 // What a line says that keeps the form.
-fn sort_type<'t>(chars: &'t [u8], line: usize, place: usize) -> Result<Line<'t>, TextFault>
-    ensures { said result ≡ decided (type_rules line place chars.now) (case_of line place chars.now) }
+fn sort_type<'t>(chars: &'t [u8], at: Spot) -> Result<Line<'t>, TextFault>
+    ensures { said result ≡ decided (type_rules at.line at.place chars.now) (case_of at.line at.place chars.now) }
 {
     let count = byte_on(chars, 0);
     let address = address_on(chars);
@@ -67,27 +63,17 @@ fn sort_type<'t>(chars: &'t [u8], line: usize, place: usize) -> Result<Line<'t>,
         0 => Ok(Line::Data {
             address,
             digits,
-            line,
-            place,
+            at,
         }),
-        1 if count == 0 && address == 0 => Ok(Line::End {
-            digits,
-            line,
-            place,
-        }),
+        1 if count == 0 && address == 0 => Ok(Line::End { digits, at }),
         4 if count == 2 && address == 0 => Ok(Line::Base {
             upper: upper(digits),
             digits,
-            line,
-            place,
+            at,
         }),
-        5 if count == 4 && address == 0 => Ok(Line::Start {
-            digits,
-            line,
-            place,
-        }),
-        1 | 4 | 5 => Err(TextFault::WrongShape { line, place }),
-        _ => Err(TextFault::UnknownType { line, place }),
+        5 if count == 4 && address == 0 => Ok(Line::Start { digits, at }),
+        1 | 4 | 5 => Err(TextFault::WrongShape(at)),
+        _ => Err(TextFault::UnknownType(at)),
     }
 }
 
@@ -95,15 +81,20 @@ fn sort_type<'t>(chars: &'t [u8], line: usize, place: usize) -> Result<Line<'t>,
 fn upper(digits: &[u8]) -> u16
     ensures { result ≡ 256 * slice_index (pairs digits.now) 0 + slice_index (pairs digits.now) 1 }
 {
-    byte_at(digits, 0) as u16 * 256 + byte_at(digits, 1) as u16
+    u16::from_be_bytes([byte_at(digits, 0), byte_at(digits, 1)])
 }
 
 // The case of the line, or the lowest of the refusals 11 to 16.
+// No `Spot` is taken, since its place may be any number: a `u32` leaves room for the places within the line.
 pub fn sort_line<'t>(chars: &'t [u8], line: usize, place: u32) -> Result<Line<'t>, TextFault>
     ensures { said result ≡ line_of line place chars.now }
 {
-    check_form(chars, line, place)?;
-    sort_type(chars, line, place as usize)
+    let at = Spot {
+        line,
+        place: place as usize,
+    };
+    check_form(chars, at)?;
+    sort_type(chars, at)
 }
 
 // Reads a single line, given without its end, as line 1. Its data bytes stay in the row, with zeros after them.

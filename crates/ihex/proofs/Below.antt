@@ -4,9 +4,9 @@ use Rattle.std.proofs.ByRecursion.{All-append}
 use Rattle.std.proofs.lemmas.List.{length-take, length-drop}
 use Rattle.std.proofs.lemmas.Bool.{ltb-false, lt-ltb, and_cases, both_ways, true≢false}
 use Rattle.std.specs.List.{flat_map, AllByRecursion}
+use Rattle.checksum.proofs.Passing.{fold-or}
 use Rattle.ihex.specs.Named.{DataIs, bytes_in, data_lines, reaches_next, reaches}
 use Rattle.ihex.specs.Frames.{Chunk, FrameIs, chunks, line_chunks, numbered, frames_of}
-use Rattle.ihex.proofs.Reaching.{reached}
 
 -- a chunk has 1 to 128 bytes, and ends at or below a bound
 abbrev pub ChunkBelow : ℕ → Chunk → Type 0
@@ -41,7 +41,7 @@ lines_below bound [] not = tt
 lines_below bound (d ∷ ds) not =
     let next = ltb 0 (length (bytes_in d)) && ltb bound (d.address + length (bytes_in d)) in
     elim next as (λ b. next ≡ b → fold (reaches_next bound) b ds ≡ false → AllByRecursion (LineBelow bound) (d ∷ ds)) [
-      | true ↦ (λ _ r. absurd (true≢false (sym (reached bound ds) ∙ r)))
+      | true ↦ (λ _ r. absurd (true≢false (sym (fold-or (reaches_next bound false) true ds) ∙ r)))
       | false ↦ (λ e r. (
         (λ some. ⊎_elim (λ none. absurd (both_ways (ltb 0 (length (bytes_in d))) none (lt-ltb 0 (length (bytes_in d)) some))) (λ below. ltb-false bound (d.address + length (bytes_in d)) below) (and_cases (ltb 0 (length (bytes_in d))) (ltb bound (d.address + length (bytes_in d))) e)),
         lines_below bound ds r,

@@ -1,26 +1,12 @@
 -- Bytes cut into chunks of 128. Assumes nothing.
-use Rattle.std.proofs.Common.{◌≡◌, ℕ, zero, suc, ◌+◌, ◌*◌, ◌/◌, ◌<◌, ◌≤◌, min, List, [], ◌∷◌, ◌++◌, length, take, drop, sym, refl, ap, ◌∙◌, ⊎_elim, arith}
+use Rattle.std.proofs.Common.{◌≡◌, ℕ, suc, ◌+◌, ◌/◌, ◌<◌, ◌≤◌, min, List, [], ◌∷◌, ◌++◌, length, take, drop, sym, refl, ap, ◌∙◌, ⊎_elim, arith}
 use Rattle.std.proofs.lemmas.List.{length-drop, length-take-le, take_at, take_all, drop_all}
 use Rattle.std.proofs.lemmas.Bool.{cases_lt}
 use Rattle.std.specs.List.{flat_map}
-use Rattle.hexline.specs.Digits.{pairs, pair_value}
+use Rattle.hexline.specs.Digits.{pairs}
 use Rattle.ihex.specs.Named.{DataIs}
-use Rattle.ihex.specs.Frames.{Chunk, FrameIs, chunks, chunks_of, line_chunks, numbered}
-use Rattle.hexline.proofs.Pairs.{length_pairs, pairs_none}
-
-pub pairs_take : (n : ℕ) (xs : List ℕ) → pairs (take (2 * n) xs) ≡ take n (pairs xs)
-unfolding pairs
-pairs_take zero xs = refl
-pairs_take (suc n) [] = let e : 2 * suc n ≡ suc (suc (2 * n)) = omega arith in rw e
-pairs_take (suc n) (a ∷ []) = let e : 2 * suc n ≡ suc (suc (2 * n)) = omega arith in rw e
-pairs_take (suc n) (a ∷ b ∷ xs) = let e : 2 * suc n ≡ suc (suc (2 * n)) = omega arith in rw e (ap (λ ys. pair_value a b ∷ ys) (pairs_take n xs))
-
-pub pairs_drop : (n : ℕ) (xs : List ℕ) → pairs (drop (2 * n) xs) ≡ drop n (pairs xs)
-unfolding pairs
-pairs_drop zero xs = refl
-pairs_drop (suc n) [] = let e : 2 * suc n ≡ suc (suc (2 * n)) = omega arith in rw e
-pairs_drop (suc n) (a ∷ []) = let e : 2 * suc n ≡ suc (suc (2 * n)) = omega arith in rw e
-pairs_drop (suc n) (a ∷ b ∷ xs) = let e : 2 * suc n ≡ suc (suc (2 * n)) = omega arith in rw e (pairs_drop n xs)
+use Rattle.ihex.specs.Frames.{FrameIs, chunks, chunks_of, line_chunks, numbered}
+use Rattle.hexline.proofs.Pairs.{length_pairs, pairs_none, pairs_take, pairs_drop}
 
 pub chunks_none : (start ln : ℕ) (bytes : List ℕ) → length bytes ≡ 0 → chunks_of start bytes ln ≡ []
 unfolding chunks
@@ -80,8 +66,3 @@ module _ (start ln count : ℕ) (digits : List ℕ) (ds : List DataIs) where
 pub numbered_none : (n : ℕ) → numbered n [] ≡ []
 unfolding numbered
 numbered_none n = refl
-
-pub length_numbered : (n : ℕ) (cs : List Chunk) → length (numbered n cs) ≡ length cs
-unfolding numbered
-length_numbered n [] = refl
-length_numbered n (c ∷ cs) = ap suc (length_numbered (n + 1) cs)

@@ -1,15 +1,19 @@
 -- A text's first line, and those after it. Assumes nothing.
-use Rattle.std.proofs.Common.{◌≡◌, ℕ, zero, suc, ◌+◌, ◌-◌, ◌<◌, ◌≤◌, Bool, true, false, cond, eqb, List, [], ◌∷◌, length, get_or, take, drop, sym, refl, ap, ◌∙◌, ⊎_elim, arith}
-use Rattle.std.proofs.lemmas.List.{get_or-drop, get_or-take, drop-drop, drop_all, take_rest, length-drop, length-take-le, take-take, get_or_past}
-use Rattle.std.proofs.lemmas.Bool.{eq-eqb, ne_eqb, cases_lt}
-use Rattle.ihex.specs.Texts.{Stretch, TextLine, on_first, stretches, size_of, placed}
+use Rattle.std.proofs.Common.{◌≡◌, ℕ, zero, suc, ◌+◌, ◌-◌, ◌<◌, ◌≤◌, Bool, true, false, cond, eqb, List, [], ◌∷◌, length, get_or, take, drop, Some, None, refl, ap, ◌∙◌, ⊎_elim, arith}
+use Rattle.std.proofs.lemmas.List.{length-drop, length-take-le}
+use Rattle.std.proofs.lemmas.List.Sums.{fails_before_first}
+use Rattle.std.proofs.lemmas.List.Quantifiers.{position-Some}
+use Rattle.std.proofs.lemmas.Bool.{eqb-true, eqb-false, eq-eqb, ne_eqb, lt-ltb, cases_lt}
+use Rattle.std.specs.List.{position, position_or_len}
+use Rattle.ihex.specs.Texts.{Stretch, TextLine, on_first, stretches, trimmed, placed}
 
 abbrev pub stretch : List ℕ → Bool → Stretch
 stretch cs b = record { chars = cs; feed = b }
 
-pub no_stretch : stretches [] ≡ []
-unfolding stretches
-no_stretch = refl
+pub no_lines : (n p : ℕ) (xs : List ℕ) → length xs ≡ 0 → placed n p (stretches xs) ≡ []
+unfolding stretches placed
+no_lines n p [] none = refl
+no_lines n p (x ∷ xs) none = absurd (omega arith)
 
 pub first_cut : (n : ℕ) (xs : List ℕ) → n < length xs → ((k : ℕ) → k < n → get_or xs k 0 ≡ 10 → ⊥) → get_or xs n 0 ≡ 10 → stretches xs ≡ stretch (take n xs) true ∷ stretches (drop (suc n) xs)
 unfolding stretches
@@ -29,57 +33,22 @@ first_last (x ∷ y ∷ xs) lt clear =
 abbrev pub line_at : ℕ → ℕ → List ℕ → TextLine
 line_at n p cs = record { number = n; place = p; chars = cs }
 
-module _ (text : List ℕ) (pos end : ℕ) (ahead : pos ≤ end) (clear : (k : ℕ) → pos ≤ k → k < end → get_or text k 0 ≡ 10 → ⊥) where
-  none : (n : ℕ) → n ≡ end - pos → (k : ℕ) → k < n → get_or (drop pos text) k 0 ≡ 10 → ⊥
-  none n e k h feed = clear (pos + k) (omega arith) (omega arith) (sym (get_or-drop pos text k 0) ∙ feed)
-
-  abbrev chars : List ℕ
-  chars = take (end - pos) (drop pos text)
-
-  -- a line that an LF ends
-  module _ (lt : end < length text) (feed : get_or text end 0 ≡ 10) where
-    at_feed : stretches (drop pos text) ≡ stretch chars true ∷ stretches (drop (end + 1) text)
-    at_feed =
-        let e : pos + (end - pos) ≡ end = omega arith in
-        let f : pos + suc (end - pos) ≡ end + 1 = omega arith in
-        first_cut (end - pos) (drop pos text) (omega (arith, length-drop pos text)) (none (end - pos) refl) (get_or-drop pos text (end - pos) 0 ∙ ap (λ k. get_or text k 0) e ∙ feed)
-        ∙ ap (λ l. stretch chars true ∷ stretches l) (drop-drop (suc (end - pos)) pos text ∙ ap (λ k. drop k text) f)
-
-    long : length chars ≡ end - pos
-    long = length-take-le (end - pos) (drop pos text) (omega (arith, length-drop pos text))
-
-    size : pos + size_of (stretch chars true) ≡ end + 1
-    size = omega (arith, long)
-
-    last_char : pos < end → get_or chars (length chars - 1) 0 ≡ get_or text (end - 1) 0
-    last_char some =
-        let at : pos + (length chars - 1) ≡ end - 1 = omega (arith, long) in
-        get_or-take (end - pos) (drop pos text) (length chars - 1) 0 (omega (arith, long)) ∙ get_or-drop pos text (length chars - 1) 0 ∙ ap (λ k. get_or text k 0) at
-
-    -- with a CR before it
-    pub line_cr : pos < end → get_or text (end - 1) 0 ≡ 13 → (n : ℕ) → placed n pos (stretches (drop pos text)) ≡ line_at n pos (take (end - 1 - pos) (drop pos text)) ∷ placed (n + 1) (end + 1) (stretches (drop (end + 1) text))
-    unfolding placed
-    line_cr some cr n =
-        let is : eqb (get_or chars (length chars - 1) 0) 13 ≡ true = eq-eqb _ 13 (last_char some ∙ cr) in
-        let cut : take (length chars - 1) chars ≡ take (end - 1 - pos) (drop pos text) = ap (λ k. take k chars) (omega (arith, long)) ∙ take-take (end - 1 - pos) (end - pos) (drop pos text) (omega arith) in
-        ap (placed n pos) at_feed ∙ rw (is, cut, size)
-
-    -- with none
-    pub line_feed : (pos < end → get_or text (end - 1) 0 ≡ 13 → ⊥) → (n : ℕ) → placed n pos (stretches (drop pos text)) ≡ line_at n pos chars ∷ placed (n + 1) (end + 1) (stretches (drop (end + 1) text))
-    unfolding placed
-    line_feed no-cr n =
-        let is : eqb (get_or chars (length chars - 1) 0) 13 ≡ false = ne_eqb _ 13 (λ e. ⊎_elim (λ some. no-cr some (sym (last_char some) ∙ e)) (λ at. let z = get_or_past chars (length chars - 1) 0 (omega (arith, long)) in omega arith) (cases_lt pos end)) in
-        ap (placed n pos) at_feed ∙ rw (is, size)
-
-  -- a last line without an end
-  pub line_last : pos < length text → end ≡ length text → (n : ℕ) → placed n pos (stretches (drop pos text)) ≡ line_at n pos chars ∷ placed (n + 1) end (stretches (drop end text))
-  unfolding placed
-  line_last lt e n =
-      let long = length-drop pos text in
-      let all : chars ≡ drop pos text = ap (λ n. take (n - pos) (drop pos text)) e ∙ take_rest text pos in
-      let rest : stretches (drop end text) ≡ [] = ap stretches (drop_all end text (omega arith)) ∙ no_stretch in
-      ap (placed n pos) (first_last (drop pos text) (omega arith) (none (length (drop pos text)) (omega arith))) ∙ rw (all, rest)
-
-pub no_lines : (n pos : ℕ) (text : List ℕ) → length text ≤ pos → placed n pos (stretches (drop pos text)) ≡ []
+-- a line that an LF ends
+pub line_feed : (text : List ℕ) (end n p : ℕ) → position (λ c. eqb c 10) text ≡ Some end → placed n p (stretches text) ≡ line_at n p (trimmed (stretch (take end text) true)) ∷ placed (n + 1) (p + (length text - length (drop (end + 1) text))) (stretches (drop (end + 1) text))
 unfolding placed
-no_lines n pos text past = ap (λ t. placed n pos (stretches t)) (drop_all pos text past) ∙ ap (placed n pos) no_stretch
+line_feed text end n p is =
+    let found = position-Some (λ c. eqb c 10) text end 0 is in
+    let long = length-take-le end text (omega (arith, found.0)) in
+    let size : p + (length (take end text) + 1) ≡ p + (length text - length (drop (end + 1) text)) = omega (arith, found.0, length-drop (end + 1) text) in
+    let next : suc end ≡ end + 1 = omega arith in
+    ap (placed n p) (first_cut end text found.0 (λ k h. eqb-false (get_or text k 0) 10 (found.2 k h)) (eqb-true (get_or text end 0) 10 found.1)) ∙ rw (next, size)
+
+none_feeds : (text : List ℕ) → position (λ c. eqb c 10) text ≡ None → length text ≤ position_or_len (λ c. eqb c 10) text
+none_feeds text is = ⊎_elim (λ lt. let some : position (λ c. eqb c 10) text ≡ Some (position_or_len (λ c. eqb c 10) text) = rw (lt-ltb (position_or_len (λ c. eqb c 10) text) (length text) lt) in cc) (λ le. le) (cases_lt (position_or_len (λ c. eqb c 10) text) (length text))
+
+-- a last line without an end
+pub line_last : (text : List ℕ) (n p : ℕ) → 0 < length text → position (λ c. eqb c 10) text ≡ None → placed n p (stretches text) ≡ line_at n p text ∷ placed (n + 1) (p + (length text - 0)) (stretches [])
+unfolding placed stretches
+line_last text n p some is =
+    let all = none_feeds text is in
+    ap (placed n p) (first_last text some (λ k h. eqb-false (get_or text k 0) 10 (fails_before_first (λ c. eqb c 10) text k 0 (omega arith))))

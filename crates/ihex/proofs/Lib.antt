@@ -2,5 +2,5 @@ pub mod Cuts
 pub mod Steps
 pub mod Walked
 pub mod Chunked
-pub mod Reaching
+pub mod Counted
 pub mod Below

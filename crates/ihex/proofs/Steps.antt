@@ -1,47 +1,37 @@
 -- One line more, and all of them. Assumes nothing.
-use Rattle.std.proofs.Common.{◌≡◌, ℕ, ◌+◌, ◌/◌, ◌≤◌, Bool, true, false, cond, ◌&&◌, ◌||◌, eqb, ltb, List, [], ◌∷◌, ◌++◌, length, drop, Ok, Err, Result, sym, refl, ap, ◌∙◌, arith}
+use Rattle.std.proofs.Common.{◌≡◌, ℕ, ◌+◌, ◌/◌, true, false, cond, ◌&&◌, ◌||◌, eqb, ltb, List, [], ◌∷◌, ◌++◌, length, Ok, Err, Result, sym, refl, ap, ◌∙◌}
+use Rattle.std.proofs.Math.Bool.{or-false}
 use Rattle.std.proofs.lemmas.List.Sums.{fold_push}
 use Rattle.checksum.specs.Outcomes.{and_then}
 use Rattle.hexline.specs.declared.fault.TextFault.{TextFault}
 use Rattle.hexline.specs.declared.fault.TextFault.TheVariants.{AfterEnd}
+use Rattle.hexline.specs.declared.line.Line.{Line}
 use Rattle.ihex.specs.declared.reads.Seen.{Seen}
-use Rattle.hexline.specs.Faults.{Rule, rule, decided}
-use Rattle.ihex.specs.Texts.{TextLine, placed, stretches}
+use Rattle.hexline.specs.Faults.{Rule, rule, decided, spot}
+use Rattle.ihex.specs.Texts.{TextLine}
 use Rattle.hexline.specs.Records.{count_on, address_on, type_on, upper_on}
-use Rattle.hexline.specs.Lines.{LineIs, data_is, end_is, base_is, start_is, line_rules, case_of, line_of}
+use Rattle.hexline.specs.Lines.{LineIs, said, said_line, data_is, end_is, base_is, start_is, line_rules, case_of, line_of}
 use Rattle.ihex.specs.Reads.{seen_next, nothing_seen, seen_after, data_rules, order_rules, rules_beside, lines_kept}
 use Rattle.hexline.proofs.Decided.{decided_ok, decided_past, decided_stop}
-use Rattle.ihex.proofs.Cuts.{no_lines}
+use Rattle.ihex.proofs.Cuts.{line_at}
 use Rattle.hexline.proofs.Sorted.{case_facts}
 
-abbrev pub line_at : ℕ → ℕ → List ℕ → TextLine
-line_at n p cs = record { number = n; place = p; chars = cs }
-
-pub or_false : (b : Bool) → (b || false) ≡ b
-or_false true = refl
-or_false false = refl
-
--- what the check for an end line says of what was seen
-pub ended_from : (b : Bool) (f g : TextFault) → ◌≡◌ {A = Result (Unit {0}) TextFault} (cond b (Err f) (Ok tt)) (Err g) → (b ≡ true) × (f ≡ g)
-ended_from true f g e = (refl, cc)
-ended_from false f g e = let z : ◌≡◌ {A = ℕ} 0 1 = cc in absurd (omega arith)
-
-pub going_from : (b : Bool) (f : TextFault) (v : Unit {0}) → ◌≡◌ {A = Result (Unit {0}) TextFault} (cond b (Err f) (Ok tt)) (Ok v) → b ≡ false
-going_from true f v e = let z : ◌≡◌ {A = ℕ} 0 1 = cc in absurd (omega arith)
-going_from false f v e = refl
+-- the case that a line was read as
+pub line_came : (ln p : ℕ) (chars : List ℕ) (r : Result Line TextFault) (l k : Line) → said r ≡ line_of ln p chars → r ≡ Ok l → l ≡ k → line_of ln p chars ≡ Ok (said_line k)
+line_came ln p chars r l k says came is = sym says ∙ ap said came ∙ ap (λ m. Ok (said_line m)) is
 
 module _ (s : Seen) (ln p : ℕ) (chars : List ℕ) where
   abbrev answer : Result Seen TextFault
   answer = decided (rules_beside s (line_at ln p chars)) (seen_next s (line_at ln p chars))
 
-  pub step_ended : s.ended ≡ true → Err (AfterEnd ln p) ≡ answer
+  pub step_ended : s.ended ≡ true → Err (AfterEnd (spot ln p)) ≡ answer
   unfolding rules_beside
   step_ended e = rw e
 
   module _ (going : s.ended ≡ false) where
     rules_going : rules_beside s (line_at ln p chars) ≡ line_rules ln p chars ++ order_rules s.upper s.top (line_at ln p chars)
     unfolding rules_beside
-    rules_going = ap (λ b. cond b (rule true (AfterEnd ln p) ∷ []) (line_rules ln p chars ++ order_rules s.upper s.top (line_at ln p chars))) going
+    rules_going = ap (λ b. cond b (rule true (AfterEnd (spot ln p)) ∷ []) (line_rules ln p chars ++ order_rules s.upper s.top (line_at ln p chars))) going
 
     pub step_refused : (f : TextFault) → line_of ln p chars ≡ Err f → Err f ≡ answer
     unfolding line_of
@@ -54,26 +44,26 @@ module _ (s : Seen) (ln p : ℕ) (chars : List ℕ) where
 
     -- a line of this type, address, count and upper half
     abbrev typed : ℕ → ℕ → ℕ → ℕ → Result Seen TextFault
-    typed t a n u = decided (cond (eqb t 0) (data_rules s.upper s.top a n ln p) []) (record { upper = cond (eqb t 4) u s.upper; top = cond (eqb t 0) (a + n) s.top; names = s.names || (eqb t 0 && ltb 0 n); ended = s.ended || eqb t 1; line = ln; place = p })
+    typed t a n u = decided (cond (eqb t 0) (data_rules s.upper s.top a n ln p) []) (record { upper = cond (eqb t 4) u s.upper; top = cond (eqb t 0) (a + n) s.top; names = s.names || (eqb t 0 && ltb 0 n); ended = s.ended || eqb t 1; at = spot ln p })
 
     step_typed : (l : LineIs) → line_of ln p chars ≡ Ok l → answer ≡ typed (type_on chars) (address_on chars) (count_on chars) (upper_on chars)
     step_typed l h = step_on l h
 
-    pub step_data : (a : ℕ) (d : List ℕ) (n q : ℕ) → line_of ln p chars ≡ Ok (data_is a d n q) → decided (data_rules s.upper s.top a (length d / 2) ln p) (record { upper = s.upper; top = a + length d / 2; names = s.names || ltb 0 (length d / 2); ended = s.ended; line = ln; place = p }) ≡ answer
+    pub step_data : (a : ℕ) (d : List ℕ) (n q : ℕ) → line_of ln p chars ≡ Ok (data_is a d n q) → decided (data_rules s.upper s.top a (length d / 2) ln p) (record { upper = s.upper; top = a + length d / 2; names = s.names || ltb 0 (length d / 2); ended = s.ended; at = spot ln p }) ≡ answer
     step_data a d n q h =
         let f = case_facts ln p chars (data_is a d n q) h in
         sym (step_typed _ h ∙ ap (λ t. typed t (address_on chars) (count_on chars) (upper_on chars)) f.0 ∙ ap (λ x. typed 0 x (count_on chars) (upper_on chars)) (sym f.1) ∙ ap (λ x. typed 0 a x (upper_on chars)) (sym f.2) ∙ rw going)
 
-    pub step_end : (d : List ℕ) (n q : ℕ) → line_of ln p chars ≡ Ok (end_is d n q) → Ok (record { upper = s.upper; top = s.top; names = s.names; ended = true; line = ln; place = p }) ≡ answer
-    step_end d n q h = sym (step_typed _ h ∙ ap (λ t. typed t (address_on chars) (count_on chars) (upper_on chars)) (case_facts ln p chars (end_is d n q) h) ∙ rw (going, or_false s.names))
+    pub step_end : (d : List ℕ) (n q : ℕ) → line_of ln p chars ≡ Ok (end_is d n q) → Ok (record { upper = s.upper; top = s.top; names = s.names; ended = true; at = spot ln p }) ≡ answer
+    step_end d n q h = sym (step_typed _ h ∙ ap (λ t. typed t (address_on chars) (count_on chars) (upper_on chars)) (case_facts ln p chars (end_is d n q) h) ∙ rw (going, or-false s.names))
 
-    pub step_base : (u : ℕ) (d : List ℕ) (n q : ℕ) → line_of ln p chars ≡ Ok (base_is u d n q) → Ok (record { upper = u; top = s.top; names = s.names; ended = s.ended; line = ln; place = p }) ≡ answer
+    pub step_base : (u : ℕ) (d : List ℕ) (n q : ℕ) → line_of ln p chars ≡ Ok (base_is u d n q) → Ok (record { upper = u; top = s.top; names = s.names; ended = s.ended; at = spot ln p }) ≡ answer
     step_base u d n q h =
         let f = case_facts ln p chars (base_is u d n q) h in
-        sym (step_typed _ h ∙ ap (λ t. typed t (address_on chars) (count_on chars) (upper_on chars)) f.0 ∙ ap (λ x. typed 4 (address_on chars) (count_on chars) x) (sym f.1) ∙ rw (going, or_false s.names))
+        sym (step_typed _ h ∙ ap (λ t. typed t (address_on chars) (count_on chars) (upper_on chars)) f.0 ∙ ap (λ x. typed 4 (address_on chars) (count_on chars) x) (sym f.1) ∙ rw (going, or-false s.names))
 
-    pub step_start : (d : List ℕ) (n q : ℕ) → line_of ln p chars ≡ Ok (start_is d n q) → Ok (record { upper = s.upper; top = s.top; names = s.names; ended = s.ended; line = ln; place = p }) ≡ answer
-    step_start d n q h = sym (step_typed _ h ∙ ap (λ t. typed t (address_on chars) (count_on chars) (upper_on chars)) (case_facts ln p chars (start_is d n q) h) ∙ rw (going, or_false s.names))
+    pub step_start : (d : List ℕ) (n q : ℕ) → line_of ln p chars ≡ Ok (start_is d n q) → Ok (record { upper = s.upper; top = s.top; names = s.names; ended = s.ended; at = spot ln p }) ≡ answer
+    step_start d n q h = sym (step_typed _ h ∙ ap (λ t. typed t (address_on chars) (count_on chars) (upper_on chars)) (case_facts ln p chars (start_is d n q) h) ∙ rw (going, or-false s.names))
 
 -- the lines that are left, beside what was said so far
 unfoldable pub kept_from : Seen → List TextLine → Result Seen TextFault
@@ -101,25 +91,20 @@ kept_is earlier (l ∷ ls) =
     decided_then (rules_beside (seen_after earlier) l) (seen_next (seen_after earlier) l) (λ next. kept_from next ls)
     ∙ ap (λ r. and_then (decided {X = Unit {0}} (rules_beside (seen_after earlier) l) tt) (λ _. r)) (ap (λ s. kept_from s ls) (sym (fold_push seen_next nothing_seen earlier l)) ∙ kept_is (earlier ++ (l ∷ [])) ls)
 
+-- what a line that is kept has said
+pub turn_seen : (s : Seen) (l : TextLine) (next : Seen) → decided (rules_beside s l) (seen_next s l) ≡ Ok next → next ≡ seen_next s l
+turn_seen s l next is = sym (decided_ok (rules_beside s l) (seen_next s l) next is)
+
 -- a turn of the loop over the lines
-module _ (text chars : List ℕ) (s : Seen) (pos after : ℕ) (goal : Result Seen TextFault) (cut : placed (s.line + 1) pos (stretches (drop pos text)) ≡ line_at (s.line + 1) pos chars ∷ placed (s.line + 1 + 1) after (stretches (drop after text))) (inv : kept_from s (placed (s.line + 1) pos (stretches (drop pos text))) ≡ goal) where
-  abbrev said : Result Seen TextFault
-  said = decided (rules_beside s (line_at (s.line + 1) pos chars)) (seen_next s (line_at (s.line + 1) pos chars))
+module _ (s : Seen) (l : TextLine) (ls rest : List TextLine) (goal : Result Seen TextFault) (cut : ls ≡ l ∷ rest) (inv : kept_from s ls ≡ goal) where
+  abbrev turned_to : Result Seen TextFault
+  turned_to = decided (rules_beside s l) (seen_next s l)
 
-  turned : and_then said (λ next. kept_from next (placed (s.line + 1 + 1) after (stretches (drop after text)))) ≡ goal
-  turned = sym (kept_more s (line_at (s.line + 1) pos chars) (placed (s.line + 1 + 1) after (stretches (drop after text)))) ∙ ap (kept_from s) (sym cut) ∙ inv
+  turned : and_then turned_to (λ next. kept_from next rest) ≡ goal
+  turned = sym (kept_more s l rest) ∙ ap (kept_from s) (sym cut) ∙ inv
 
-  pub turn_line : (next : Seen) → said ≡ Ok next → next.line ≡ s.line + 1
-  turn_line next is = sym (ap (λ n. n.line) (decided_ok (rules_beside s (line_at (s.line + 1) pos chars)) (seen_next s (line_at (s.line + 1) pos chars)) next is))
+  pub turn_on : (next : Seen) → turned_to ≡ Ok next → kept_from next rest ≡ goal
+  turn_on next is = sym (ap (λ r. and_then r (λ n. kept_from n rest)) is) ∙ turned
 
-  pub turn_on : (next : Seen) → said ≡ Ok next → kept_from next (placed (next.line + 1) after (stretches (drop after text))) ≡ goal
-  turn_on next is =
-      ap (λ n. kept_from next (placed (n + 1) after (stretches (drop after text)))) (turn_line next is)
-      ∙ sym (ap (λ r. and_then r (λ n. kept_from n (placed (s.line + 1 + 1) after (stretches (drop after text))))) is)
-      ∙ turned
-
-  pub turn_stops : (f : TextFault) → said ≡ Err f → Err f ≡ goal
-  turn_stops f is = sym (ap (λ r. and_then r (λ n. kept_from n (placed (s.line + 1 + 1) after (stretches (drop after text))))) is) ∙ turned
-
-pub turn_last : (text : List ℕ) (s : Seen) (pos : ℕ) (goal : Result Seen TextFault) → length text ≤ pos → kept_from s (placed (s.line + 1) pos (stretches (drop pos text))) ≡ goal → Ok s ≡ goal
-turn_last text s pos goal past inv = sym (kept_none s) ∙ ap (kept_from s) (sym (no_lines (s.line + 1) pos text past)) ∙ inv
+  pub turn_stops : (f : TextFault) → turned_to ≡ Err f → Err f ≡ goal
+  turn_stops f is = sym (ap (λ r. and_then r (λ n. kept_from n rest)) is) ∙ turned

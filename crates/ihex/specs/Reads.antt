@@ -4,7 +4,7 @@ use Rattle.checksum.specs.Outcomes.{and_then}
 use Rattle.hexline.specs.declared.fault.TextFault.{TextFault}
 use Rattle.hexline.specs.declared.fault.TextFault.TheVariants.{TooLong, WrongUpper, Backward, PastTop, NoEnd, AfterEnd, NothingNamed, RowLength}
 use Rattle.ihex.specs.declared.reads.Seen.{Seen}
-use Rattle.hexline.specs.Faults.{Rule, rule, decided}
+use Rattle.hexline.specs.Faults.{Rule, rule, decided, spot}
 use Rattle.ihex.specs.Texts.{TextLine, lines_of}
 use Rattle.hexline.specs.Records.{count_on, address_on, type_on, upper_on}
 use Rattle.hexline.specs.Lines.{line_rules}
@@ -40,11 +40,11 @@ ends_next b l = b || is_end l
 
 -- what the lines so far have said, and the last one's number and place
 abbrev pub seen_next : Seen → TextLine → Seen
-seen_next s l = record { upper = upper_next s.upper l; top = end_next s.top l; names = names_next s.names l; ended = ends_next s.ended l; line = l.number; place = l.place }
+seen_next s l = record { upper = upper_next s.upper l; top = end_next s.top l; names = names_next s.names l; ended = ends_next s.ended l; at = spot l.number l.place }
 
 -- before the first line: the upper half 0, no data, no byte, no end
 abbrev pub nothing_seen : Seen
-nothing_seen = record { upper = 0; top = 0; names = false; ended = false; line = 0; place = 0 }
+nothing_seen = record { upper = 0; top = 0; names = false; ended = false; at = spot 0 0 }
 
 abbrev pub seen_after : List TextLine → Seen
 seen_after earlier = fold seen_next nothing_seen earlier
@@ -63,7 +63,7 @@ ends_past_top start count = nat_lt 65536 (start + count)
 
 -- what data must keep beside what was said before it
 abbrev pub data_rules : ℕ → ℕ → ℕ → ℕ → ℕ → ℕ → List Rule
-data_rules upper top start count ln p = rule (wrong_upper upper) (WrongUpper ln p) ∷ (rule (starts_back top start) (Backward ln p) ∷ (rule (ends_past_top start count) (PastTop ln p) ∷ []))
+data_rules upper top start count ln p = rule (wrong_upper upper) (WrongUpper (spot ln p)) ∷ (rule (starts_back top start) (Backward (spot ln p)) ∷ (rule (ends_past_top start count) (PastTop (spot ln p)) ∷ []))
 
 -- the other types have no such rules
 abbrev pub order_rules : ℕ → ℕ → TextLine → List Rule
@@ -71,7 +71,7 @@ order_rules upper top l = cond (is_data l) (data_rules upper top (address_on l.c
 
 -- all rules of a line beside what was said before it; one after the end line is not read
 unfoldable pub rules_beside : Seen → TextLine → List Rule
-rules_beside s l = cond s.ended (rule true (AfterEnd l.number l.place) ∷ []) (line_rules l.number l.place l.chars ++ order_rules s.upper s.top l)
+rules_beside s l = cond s.ended (rule true (AfterEnd (spot l.number l.place)) ∷ []) (line_rules l.number l.place l.chars ++ order_rules s.upper s.top l)
 
 -- the first line that breaks a rule decides; where none does, what they all said
 unfoldable pub lines_kept : List TextLine → List TextLine → Result Seen TextFault
@@ -80,7 +80,7 @@ lines_kept earlier (l ∷ ls) = and_then (decided {X = Unit {0}} (rules_beside (
 
 -- 20 and 22: what the whole text must keep; where there is an end line, it is the last line
 abbrev pub whole_rules : ℕ → Seen → List Rule
-whole_rules len s = rule (not s.ended) (NoEnd (s.line + 1) len) ∷ (rule (not s.names) (NothingNamed s.line s.place) ∷ [])
+whole_rules len s = rule (not s.ended) (NoEnd (spot (s.at.line + 1) len)) ∷ (rule (not s.names) (NothingNamed s.at) ∷ [])
 
 unfoldable pub text_of : List ℕ → Result (Unit {0}) TextFault
 text_of text = cond (nat_lt longest_text (length text)) (Err TooLong) (and_then (lines_kept [] (lines_of text)) (λ s. decided (whole_rules (length text) s) tt))

@@ -1,53 +1,33 @@
-// Where the lines of a text lie.
-ghost use Rattle.std.specs.Prelude.{◌≡◌, ℕ, ◌+◌, ◌-◌, ◌<◌, ◌≤◌, ◌∷◌, length, drop, ◌≢◌, slice_index};
-ghost use Rattle.ihex.specs.Texts.{stretches, placed};
+// Where the first line of a text ends.
+ghost use Rattle.std.specs.Prelude.{◌≡◌, ℕ, ◌+◌, ◌-◌, ◌<◌, ◌≤◌, ◌∷◌, ◌==◌, true, length};
+ghost use Rattle.std.specs.List.{position};
+ghost use Rattle.ihex.specs.Texts.{stretches, placed, trimmed};
 
 // What may stand directly before the LF that ends a line.
 const CR: u8 = b'\r';
 
-// A line's characters without its end, and where the next line begins.
-#[derive(Clone, Copy)]
-pub struct Cut<'t> {
-    pub chars: &'t [u8],
-    pub next: usize,
+// The place of the first LF.
+fn feed(text: &[u8]) -> Option<usize>
+    ensures { result ≡ position (λ c. c == 10) text.now }
+{
+    text.iter().position(|c| *c == b'\n')
 }
 
-// The place of the first LF from `pos` on, or the text's length.
-fn line_end(text: &[u8], pos: usize) -> usize
-    requires { pos ≤ length text.now }
-    ensures within { (pos ≤ result) × (result ≤ length text.now) }
-    ensures none { (k : ℕ) → pos ≤ k → k < result → slice_index text.now k ≢ 10 }
-    ensures found { result < length text.now → slice_index text.now result ≡ 10 }
+// A line's characters up to its LF, without one CR before it.
+fn trimmed(chars: &[u8]) -> &[u8]
+    ensures { result.now ≡ trimmed (record { chars = chars.now; feed = true }) }
 {
-    for i in pos..text.len() {
-        if text[i] == b'\n' {
-            return i;
-        }
-    }
-    text.len()
+    chars.strip_suffix(&[CR]).unwrap_or(chars)
 }
 
-// The line that begins at `pos`.
-pub fn cut_line(text: &[u8], pos: usize) -> Cut<'_>
-    requires { pos < length text.now }
-    ensures within { (pos < result.next) × (result.next ≤ length text.now) × (pos + length result.chars.now ≤ result.next) }
-    ensures lines { (n : ℕ) → placed n pos (stretches (drop pos text.now)) ≡ record { number = n; place = pos; chars = result.chars.now } ∷ placed (n + 1) result.next (stretches (drop result.next text.now)) }
+// The first line's characters without its end, and the text after it.
+pub fn split_line(text: &[u8]) -> (&[u8], &[u8])
+    requires { 0 < length text.now }
+    ensures lines { (n p : ℕ) → placed n p (stretches text.now) ≡ record { number = n; place = p; chars = result.0.now } ∷ placed (n + 1) (p + (length text.now - length result.1.now)) (stretches result.1.now) }
+    ensures within { (length result.1.now < length text.now) × (length result.0.now + length result.1.now ≤ length text.now) }
 {
-    let end = line_end(text, pos);
-    if end == text.len() {
-        return Cut {
-            chars: &text[pos..end],
-            next: end,
-        };
-    }
-    if pos < end && text[end - 1] == CR {
-        return Cut {
-            chars: &text[pos..end - 1],
-            next: end + 1,
-        };
-    }
-    Cut {
-        chars: &text[pos..end],
-        next: end + 1,
+    match feed(text) {
+        Some(end) => (trimmed(&text[..end]), &text[end + 1..]),
+        None => (text, b""),
     }
 }

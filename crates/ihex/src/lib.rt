@@ -4,11 +4,12 @@
 mod cut;
 mod frames;
 mod held;
+mod lines;
 mod reads;
 mod walk;
 
 pub use frames::{DataFrame, DataFrames};
 pub use held::Patch;
-pub use hexline::{Line, TextFault, digit, read_line};
+pub use hexline::{Line, Spot, TextFault, digit, read_line};
 pub use reads::check_text;
 pub use walk::{DataLine, DataLines};

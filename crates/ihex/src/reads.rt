@@ -1,19 +1,18 @@
 // A whole text.
-ghost use Rattle.std.specs.Prelude.{◌≡◌, ◌+◌, ◌≤◌, true, false, ◌||◌, [], length, IfOk, if◌then◌else◌, Ok, Err, nat_lt};
-ghost use Rattle.hexline.specs.declared.fault.TextFault.TheVariants.{AfterEnd};
+ghost use Rattle.std.specs.Prelude.{◌≡◌, ◌+◌, ◌^◌, ◌<◌, ◌≤◌, true, false, ◌||◌, [], length, IfOk, Ok, Err, nat_lt};
 ghost use Rattle.hexline.specs.Faults.{decided};
-ghost use Rattle.ihex.specs.Texts.{lines_of};
-ghost use Rattle.ihex.specs.Reads.{seen_next, nothing_seen, data_rules, rules_beside, lines_kept, text_of, read_text};
 ghost use Rattle.hexline.specs.Rows.{row_after_text};
+ghost use Rattle.ihex.specs.Texts.{lines_of};
+ghost use Rattle.ihex.specs.Reads.{lines_kept, text_of, read_text};
 
-use super::cut::{Cut, cut_line};
-use hexline::{Line, RowGuard, TextFault, sort_line};
+use super::lines::{Lines, TextLine};
+use hexline::{Line, RowGuard, Spot, TextFault, sort_line};
 
 // The longest text.
 const LONGEST_TEXT: usize = 131072;
 
-// What the lines so far have said.
-#[derive(Clone, Copy)]
+// What the lines so far have said: at first nothing.
+#[derive(Clone, Copy, Default)]
 pub struct Seen {
     // the upper half of addresses
     upper: u16,
@@ -23,77 +22,59 @@ pub struct Seen {
     names: bool,
     // whether the end line came
     ended: bool,
-    // the last line's number and place
-    line: usize,
-    place: u32,
+    // where the last line stands
+    at: Spot,
 }
 
-// One data line more, of so many bytes.
-fn step_data(seen: Seen, start: u16, count: u8, line: usize, place: u32) -> Result<Seen, TextFault>
-    ensures { result ≡ decided (data_rules seen.upper seen.top start count line place) (record { upper = seen.upper; top = start + count; names = seen.names || nat_lt 0 count; ended = seen.ended; line = line; place = place }) }
-{
-    let end = start as u32 + count as u32;
-    let at = place as usize;
-    if seen.upper != 0x2000 {
-        return Err(TextFault::WrongUpper { line, place: at });
-    }
-    if (start as u32) < seen.top {
-        return Err(TextFault::Backward { line, place: at });
-    }
-    if end > 65536 {
-        return Err(TextFault::PastTop { line, place: at });
-    }
-    Ok(Seen {
-        upper: seen.upper,
-        top: end,
-        names: seen.names || count > 0,
-        ended: seen.ended,
-        line,
-        place,
-    })
-}
+impl Seen {
+    ghost use Rattle.ihex.specs.Reads.{seen_next, data_rules, rules_beside};
+    ghost use Rattle.ihex.specs.Walks.{said_text};
 
-// No line may stand after the end line.
-fn check_open(seen: Seen, line: usize, place: u32) -> Result<(), TextFault>
-    ensures { result ≡ (if seen.ended then Err (AfterEnd line place) else Ok tt) }
-{
-    if seen.ended {
-        return Err(TextFault::AfterEnd {
-            line,
-            place: place as usize,
-        });
+    // One data line more, of so many bytes.
+    fn with_data(self, start: u16, count: u8, at: Spot) -> Result<Seen, TextFault>
+        ensures { result ≡ decided (data_rules self.upper self.top start count at.line at.place) (record { upper = self.upper; top = start + count; names = self.names || nat_lt 0 count; ended = self.ended; at = at }) }
+    {
+        let end = u32::from(start) + u32::from(count);
+        if self.upper != 0x2000 {
+            return Err(TextFault::WrongUpper(at));
+        }
+        if u32::from(start) < self.top {
+            return Err(TextFault::Backward(at));
+        }
+        if end > 65536 {
+            return Err(TextFault::PastTop(at));
+        }
+        Ok(Seen {
+            top: end,
+            names: self.names || count > 0,
+            at,
+            ..self
+        })
     }
-    Ok(())
-}
 
-// One line more.
-fn step(seen: Seen, chars: &[u8], line: usize, place: u32) -> Result<Seen, TextFault>
-    ensures { result ≡ decided (rules_beside seen (record { number = line; place = place; chars = chars.now })) (seen_next seen (record { number = line; place = place; chars = chars.now })) }
-{
-    check_open(seen, line, place)?;
-    match sort_line(chars, line, place)? {
-        Line::Data {
-            address,
-            digits,
-            ..
-        } => step_data(seen, address, (digits.len() / 2) as u8, line, place),
-        Line::End { .. } => Ok(Seen {
-            ended: true,
-            line,
-            place,
-            ..seen
-        }),
-        Line::Base { upper, .. } => Ok(Seen {
-            upper,
-            line,
-            place,
-            ..seen
-        }),
-        Line::Start { .. } => Ok(Seen {
-            line,
-            place,
-            ..seen
-        }),
+    // One line more.
+    fn with_line(self, line: TextLine<'_>) -> Result<Seen, TextFault>
+        requires { line.at.place < 2 ^ 32 }
+        ensures { result ≡ decided (rules_beside self (said_text line.entry)) (seen_next self (said_text line.entry)) }
+    {
+        let at = line.at;
+        if self.ended {
+            return Err(TextFault::AfterEnd(at));
+        }
+        match sort_line(line.chars, at.line, at.place as u32)? {
+            Line::Data {
+                address,
+                digits,
+                ..
+            } => self.with_data(address, (digits.len() / 2) as u8, at),
+            Line::End { .. } => Ok(Seen {
+                ended: true,
+                at,
+                ..self
+            }),
+            Line::Base { upper, .. } => Ok(Seen { upper, at, ..self }),
+            Line::Start { .. } => Ok(Seen { at, ..self }),
+        }
     }
 }
 
@@ -101,26 +82,17 @@ fn step(seen: Seen, chars: &[u8], line: usize, place: u32) -> Result<Seen, TextF
 fn read_lines(text: &[u8]) -> Result<Seen, TextFault>
     requires { length text.now ≤ 131072 }
     ensures result { result ≡ lines_kept [] (lines_of text.now) }
-    ensures few { IfOk result (λ s. s.line ≤ 131072) }
+    ensures few { IfOk result (λ s. s.at.line ≤ 131072) }
 {
-    let mut seen = Seen {
-        upper: 0,
-        top: 0,
-        names: false,
-        ended: false,
-        line: 0,
-        place: 0,
-    };
-    let mut pos = 0;
-    while pos < text.len() {
-        let Cut { chars, next } = cut_line(text, pos);
-        seen = step(seen, chars, seen.line + 1, pos as u32)?;
-        pos = next;
+    let mut seen = Seen::default();
+    for line in Lines::over(text) {
+        seen = seen.with_line(line)?;
     }
     Ok(seen)
 }
 
 // Every rule of a text.
+#[tactic(auto, unfolding(crate::specs::Reads::text_of))]
 fn check_rules(text: &[u8]) -> Result<(), TextFault>
     ensures { result ≡ text_of text.now }
 {
@@ -129,16 +101,13 @@ fn check_rules(text: &[u8]) -> Result<(), TextFault>
     }
     let seen = read_lines(text)?;
     if !seen.ended {
-        return Err(TextFault::NoEnd {
-            line: seen.line + 1,
+        return Err(TextFault::NoEnd(Spot {
+            line: seen.at.line + 1,
             place: text.len(),
-        });
+        }));
     }
     if !seen.names {
-        return Err(TextFault::NothingNamed {
-            line: seen.line,
-            place: seen.place as usize,
-        });
+        return Err(TextFault::NothingNamed(seen.at));
     }
     Ok(())
 }

@@ -1,19 +1,12 @@
 -- Strings laid one after the other. Assumes nothing.
-use Rattle.std.proofs.Common.{◌≡◌, ℕ, ◌+◌, true, false, cond, List, [], ◌∷◌, ◌++◌, length, Some, None, Option, sym, ap, ◌∙◌}
+use Rattle.std.proofs.Common.{◌≡◌, ℕ, ◌+◌, List, [], ◌∷◌, ◌++◌, length, Some, None, Option, sym, ap, ◌∙◌}
 use Rattle.std.proofs.lemmas.List.{append-nil, append_assoc}
 use Rattle.std.specs.List.{flat_map}
-use Rattle.checksum.proofs.Joins.{joined_append}
+use Rattle.std.proofs.lemmas.Grind.{flat_map-append}
 use Rattle.ihex.specs.Frames.{FrameIs}
-use Rattle.bootloader.specs.Commands.{addr_ram, write_ram, download_init, ram_remap_reset}
-use Rattle.listings.specs.Listed.{stands_at, addressed, writes, commands_of}
+use Rattle.bootloader.specs.Commands.{write_ram, download_init, ram_remap_reset}
+use Rattle.listings.specs.Listed.{addressed, writes, commands_of}
 use Rattle.listings.specs.Outputs.{command_string}
-
-module _ (pointer : Option ℕ) (start : ℕ) (out : List ℕ) where
-  pub address_known : stands_at pointer start ≡ true → out ≡ out ++ flat_map command_string (addressed pointer start)
-  address_known is = sym (append-nil out) ∙ ap (λ b. out ++ flat_map command_string (cond b [] (addr_ram start ∷ []))) (sym is)
-
-  pub address_sent : stands_at pointer start ≡ false → out ++ command_string (addr_ram start) ≡ out ++ flat_map command_string (addressed pointer start)
-  address_sent is = ap (λ l. out ++ l) (sym (append-nil (command_string (addr_ram start)))) ∙ ap (λ b. out ++ flat_map command_string (cond b [] (addr_ram start ∷ []))) (sym is)
 
 -- a frame more of those that are left
 pub frame_laid : (out now goal : List ℕ) (pointer : Option ℕ) (f : FrameIs) (fs : List FrameIs) → now ≡ (out ++ flat_map command_string (addressed pointer f.start)) ++ command_string (write_ram f.bytes) → out ++ flat_map command_string (writes pointer (f ∷ fs)) ≡ goal → now ++ flat_map command_string (writes (Some (f.start + length f.bytes)) fs) ≡ goal
@@ -22,7 +15,7 @@ frame_laid out now goal pointer f fs is inv =
     ap (λ l. l ++ flat_map command_string (writes (Some (f.start + length f.bytes)) fs)) is
     ∙ append_assoc (out ++ flat_map command_string (addressed pointer f.start)) (command_string (write_ram f.bytes)) (flat_map command_string (writes (Some (f.start + length f.bytes)) fs))
     ∙ append_assoc out (flat_map command_string (addressed pointer f.start)) (command_string (write_ram f.bytes) ++ flat_map command_string (writes (Some (f.start + length f.bytes)) fs))
-    ∙ ap (λ l. out ++ l) (sym (joined_append command_string (addressed pointer f.start) (write_ram f.bytes ∷ writes (Some (f.start + length f.bytes)) fs)))
+    ∙ ap (λ l. out ++ l) (sym (flat_map-append command_string (addressed pointer f.start) (write_ram f.bytes ∷ writes (Some (f.start + length f.bytes)) fs)))
     ∙ inv
 
 pub frames_laid : (out goal : List ℕ) (pointer : Option ℕ) (fs : List FrameIs) → fs ≡ [] → out ++ flat_map command_string (writes pointer fs) ≡ goal → out ≡ goal
@@ -36,4 +29,4 @@ all_laid one two three fs first middle last =
     ∙ ap (λ l. l ++ command_string ram_remap_reset) (middle ∙ ap (λ l. l ++ flat_map command_string (writes None fs)) first)
     ∙ append_assoc (command_string download_init) (flat_map command_string (writes None fs)) (command_string ram_remap_reset)
     ∙ ap (λ l. command_string download_init ++ (flat_map command_string (writes None fs) ++ l)) (sym (append-nil (command_string ram_remap_reset)))
-    ∙ ap (λ l. command_string download_init ++ l) (sym (joined_append command_string (writes None fs) (ram_remap_reset ∷ [])))
+    ∙ ap (λ l. command_string download_init ++ l) (sym (flat_map-append command_string (writes None fs) (ram_remap_reset ∷ [])))

@@ -1,3 +1,2 @@
-pub mod Strings
 pub mod Laying
 pub mod Answered

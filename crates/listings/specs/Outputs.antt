@@ -52,6 +52,10 @@ strings_of text = flat_map command_string (commands_of (frames_of text))
 unfoldable pub listed : List ℕ → Result (List ℕ) ProgramFault
 listed text = cond (nat_lt longest_input (length text)) (Err (Text TooLong)) (and_then (map_err Text (text_of text)) (λ _. cond (reaches listed_window text) (Err PastWindow) (Ok (strings_of text))))
 
+-- what is shown of a fault: number, line and place
+abbrev pub shown_of : ProgramFault → List ℕ
+shown_of f = codes "fault " ++ (decimal (number_of f) ++ (codes " " ++ (decimal (line_in f) ++ (codes " " ++ decimal (place_in f)))))
+
 -- one line for a fault: number, line and place
 abbrev pub fault_line : ProgramFault → List ℕ
 fault_line f = codes "fault " ++ (decimal (number_of f) ++ (codes " " ++ (decimal (line_in f) ++ (codes " " ++ (decimal (place_in f) ++ codes "\n")))))

@@ -1,14 +1,16 @@
 // Why a text is not listed.
-ghost use Rattle.std.specs.Prelude.{◌≡◌};
+ghost use Rattle.std.specs.Prelude.{◌≡◌, Some};
 ghost use Rattle.listings.specs.declared.fault.ProgramFault.TheVariants.{Text, Frame, Memory};
-ghost use Rattle.listings.specs.Outputs.{number_of, line_in, place_in};
+ghost use Rattle.listings.specs.Outputs.{number_of, line_in, place_in, shown_of};
 
 use bootloader::FrameFault;
 use ihex::TextFault;
 use std::alloc::AllocError;
+use std::error::Error;
+use std::fmt;
 
 // A fault of a layer below stands whole in its case.
-#[derive(Clone, Copy, Debug)]
+#[derive(Clone, Copy, Debug, PartialEq, Eq)]
 pub enum ProgramFault {
     Text(TextFault),
     Frame(FrameFault),
@@ -61,9 +63,7 @@ impl ProgramFault {
     {
         match self {
             ProgramFault::Text(fault) => fault.line(),
-            ProgramFault::Frame(_) => 0,
-            ProgramFault::PastWindow => 0,
-            ProgramFault::Memory => 0,
+            ProgramFault::Frame(_) | ProgramFault::PastWindow | ProgramFault::Memory => 0,
         }
     }
 
@@ -73,9 +73,20 @@ impl ProgramFault {
     {
         match self {
             ProgramFault::Text(fault) => fault.place(),
-            ProgramFault::Frame(_) => 0,
-            ProgramFault::PastWindow => 0,
-            ProgramFault::Memory => 0,
+            ProgramFault::Frame(_) | ProgramFault::PastWindow | ProgramFault::Memory => 0,
         }
     }
 }
+
+impl fmt::Display for ProgramFault {
+    ghost output = { λ fault. Some (shown_of fault) };
+
+    fn fmt<W: fmt::Write>(&self, f: &mut fmt::Formatter<W>) -> fmt::Result {
+        let number = self.number();
+        let line = self.line();
+        let place = self.place();
+        write!(f, "fault {number} {line} {place}")
+    }
+}
+
+impl Error for ProgramFault {}

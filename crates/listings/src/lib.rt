@@ -7,4 +7,4 @@ mod output;
 
 pub use fault::ProgramFault;
 pub use lists::list;
-pub use output::{Output, answer, fault_line};
+pub use output::{answer, fault_line};

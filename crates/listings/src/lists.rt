@@ -1,5 +1,5 @@
 // The strings of a patch.
-ghost use Rattle.std.specs.Prelude.{◌≡◌, ◌+◌, ◌<◌, ◌≤◌, false, [], ◌∷◌, ◌++◌, length, IfErr, None, Ok, Err, MatchResult, OnOk, ◌≢◌};
+ghost use Rattle.std.specs.Prelude.{◌≡◌, ◌<◌, ◌≤◌, false, ◌++◌, length, IfOk, None, Ok, Err, MatchResult, OnOk, ◌≢◌};
 ghost use Rattle.std.specs.List.{flat_map};
 ghost use Rattle.ihex.specs.Named.{reaches};
 ghost use Rattle.ihex.specs.Frames.{frames_of};
@@ -7,14 +7,14 @@ ghost use Rattle.ihex.specs.Patches.{text_in};
 ghost use Rattle.ihex.specs.Walks.{said_frame};
 ghost use Rattle.bootloader.specs.Commands.{meaning, payload_of, write_ram};
 ghost use Rattle.listings.specs.declared.fault.ProgramFault.TheVariants.{Memory};
-ghost use Rattle.listings.specs.Listed.{stands_at, addressed, writes};
+ghost use Rattle.listings.specs.Listed.{addressed, writes};
 ghost use Rattle.listings.specs.Outputs.{command_string, strings_of, listed};
 
 use super::fault::ProgramFault;
 use bootloader::Command;
 use card::read_card;
 use ihex::{DataFrame, Patch, TextFault};
-use std::alloc::Global;
+use std::alloc::{AllocError, Global};
 
 // The longest text that is listed, and the window of a TMF8X0X.
 const LONGEST_INPUT: usize = 65536;
@@ -22,37 +22,25 @@ const LONGEST_INPUT: usize = 65536;
 const WINDOW: u32 = 16384;
 
 // One command's string more.
-fn push_command(out: &mut Vec<u8>, command: &Command<'_>) -> Result<(), ProgramFault>
-    ensures pushed { OnOk result (out.new.items ≡ out.old.items ++ command_string (meaning command.now)) }
-    ensures stopped { length (payload_of (meaning command.now)) ≤ 128 → IfErr result (λ e. e ≡ Memory) }
+fn push_command(out: &mut Vec<u8>, command: &Command<'_>) -> Result<(), AllocError>
+    requires { length (payload_of (meaning command.now)) ≤ 128 }
+    ensures { OnOk result (out.new.items ≡ out.old.items ++ command_string (meaning command.now)) }
 {
     let mut string = [0u8; 405];
-    let len = command.write_string(&mut string)?;
-    out.extend_from_slice(&string[0..len])?;
+    let len = command.write_string(&mut string).unwrap();
+    out.extend_from_slice(&string[..len])?;
     Ok(())
-}
-
-// Whether the pointer stands at a start.
-fn stands_at(pointer: Option<usize>, start: usize) -> bool
-    ensures { result ≡ stands_at pointer start }
-{
-    match pointer {
-        Some(end) => end == start,
-        None => false,
-    }
 }
 
 // The address, unless the pointer stands at it.
-fn push_address(out: &mut Vec<u8>, pointer: Option<usize>, start: usize) -> Result<(), ProgramFault>
+fn push_address(out: &mut Vec<u8>, pointer: Option<usize>, start: usize) -> Result<(), AllocError>
     requires { start < 65536 }
-    ensures pushed { OnOk result (out.new.items ≡ out.old.items ++ flat_map command_string (addressed pointer start)) }
-    ensures stopped { IfErr result (λ e. e ≡ Memory) }
+    ensures { OnOk result (out.new.items ≡ out.old.items ++ flat_map command_string (addressed pointer start)) }
 {
-    if stands_at(pointer, start) {
+    if pointer == Some(start) {
         return Ok(());
     }
-    push_command(out, &Command::addr_ram(start as u16))?;
-    Ok(())
+    push_command(out, &Command::addr_ram(start as u16))
 }
 
 // One frame more: its address, unless it starts where the one before it ended, and its bytes.
@@ -60,25 +48,21 @@ fn push_frame(
     out: &mut Vec<u8>,
     pointer: Option<usize>,
     frame: &DataFrame,
-) -> Result<(), ProgramFault>
+) -> Result<(), AllocError>
     requires { (frame.now.start < 65536) × (length (said_frame frame.now).bytes ≤ 128) }
-    ensures pushed { OnOk result (out.new.items ≡ (out.old.items ++ flat_map command_string (addressed pointer frame.now.start)) ++ command_string (write_ram (said_frame frame.now).bytes)) }
-    ensures stopped { IfErr result (λ e. e ≡ Memory) }
+    ensures { OnOk result (out.new.items ≡ (out.old.items ++ flat_map command_string (addressed pointer frame.now.start)) ++ command_string (write_ram (said_frame frame.now).bytes)) }
 {
     push_address(out, pointer, frame.start)?;
-    push_command(out, &Command::WriteRam(frame.data()))?;
-    Ok(())
+    push_command(out, &Command::WriteRam(frame.data()))
 }
 
 // All frames of a patch that stays within the window.
-fn push_frames(out: &mut Vec<u8>, patch: &Patch<'_>) -> Result<(), ProgramFault>
+fn push_frames(out: &mut Vec<u8>, patch: &Patch<'_>) -> Result<(), AllocError>
     requires { reaches 16384 (text_in patch.now) ≡ false }
-    ensures pushed { OnOk result (out.new.items ≡ out.old.items ++ flat_map command_string (writes None (frames_of (text_in patch.now)))) }
-    ensures stopped { IfErr result (λ e. e ≡ Memory) }
+    ensures { OnOk result (out.new.items ≡ out.old.items ++ flat_map command_string (writes None (frames_of (text_in patch.now)))) }
 {
-    let mut frames = patch.data_frames();
     let mut pointer = None;
-    while let Some(frame) = frames.next() {
+    for frame in patch.data_frames() {
         push_frame(out, pointer, &frame)?;
         pointer = Some(frame.start + frame.data().len());
     }
@@ -86,9 +70,9 @@ fn push_frames(out: &mut Vec<u8>, patch: &Patch<'_>) -> Result<(), ProgramFault>
 }
 
 // The strings of a patch that stays within the window.
-fn strings_of(heap: Global, patch: &Patch<'_>) -> Result<Vec<u8>, ProgramFault>
+fn strings_of(heap: Global, patch: &Patch<'_>) -> Result<Vec<u8>, AllocError>
     requires { reaches 16384 (text_in patch.now) ≡ false }
-    ensures { MatchResult result (λ v. v.items ≡ strings_of (text_in patch.now)) (λ e. e ≡ Memory) }
+    ensures { IfOk result (λ v. v.items ≡ strings_of (text_in patch.now)) }
 {
     let mut out = Vec::new(heap);
     push_command(&mut out, &Command::download_init())?;
@@ -110,5 +94,5 @@ pub fn list(heap: Global, text: &[u8]) -> Result<Vec<u8>, ProgramFault>
     if patch.reaches(WINDOW) {
         return Err(ProgramFault::PastWindow);
     }
-    strings_of(heap, &patch)
+    Ok(strings_of(heap, &patch)?)
 }

@@ -2,7 +2,7 @@
 use Rattle.std.proofs.Common.{◌≡◌, ℕ, ◌+◌, ◌-◌, ◌*◌, ◌/◌, ◌<◌, cond, ltb, leb, ◌⊎◌, List, [], ◌∷◌, ◌++◌, length, get_or, Some, None, fold, Option, sym, refl, ap, ◌∙◌, inl, inr, ⊎_elim, arith}
 use Rattle.std.proofs.lemmas.Bool.{le-leb, lt-leb, lt-ltb, le-ltb, and_from, and_left, and_right, cases_lt}
 use Rattle.std.specs.List.{AllByRecursion}
-use Rattle.checksum.proofs.Joins.{folded_append}
+use Rattle.std.proofs.lemmas.List.Sums.{fold-append}
 use Rattle.hexline.specs.Digits.{pair_value}
 use Rattle.hexline.proofs.Pairs.{get_or_pairs, length_pairs}
 use Rattle.ihex.specs.Named.{DataIs, bytes_in, data_lines, byte_at, held, named_next, named}
@@ -12,7 +12,7 @@ some_same : (b c : ℕ) → ◌≡◌ {A = Option ℕ} (Some b) (Some c) → b �
 some_same b c e = cc
 
 some_none : (b : ℕ) → ◌≡◌ {A = Option ℕ} (Some b) None → ⊥
-some_none b e = let z : ◌≡◌ {A = ℕ} 0 1 = cc in omega arith
+some_none b e = cc
 
 module _ (a : ℕ) where
   named_here : (d : DataIs) → Names d a → byte_at d.address (bytes_in d) a ≡ Some (get_or (bytes_in d) (a - d.address) 0)
@@ -59,7 +59,7 @@ module _ (a : ℕ) where
 
   held_in : (before : List DataIs) (line : DataIs) (after : List DataIs) (o : Option ℕ) → Names line a → AllByRecursion (λ d. Names d a → ⊥) after → fold (named_next a) o (before ++ (line ∷ after)) ≡ Some (get_or (bytes_in line) (a - line.address) 0)
   held_in before line after o here last =
-      folded_append (named_next a) o before (line ∷ after)
+      fold-append (named_next a) o before (line ∷ after)
       ∙ ap (λ p. fold (named_next a) (held (fold (named_next a) o before) p) after) (named_here line here)
       ∙ stays after (Some (get_or (bytes_in line) (a - line.address) 0)) last
 

@@ -4,6 +4,7 @@ use Rattle.std.proofs.ByRecursion.{All-push}
 use Rattle.std.proofs.lemmas.List.Sums.{fold_push}
 use Rattle.std.proofs.lemmas.Bool.{true≢false, eq-eqb, ne_eqb, cases_lt, cases_eq}
 use Rattle.std.specs.List.{flat_map, AllByRecursion}
+use Rattle.hexline.specs.Faults.{spot}
 use Rattle.hexline.specs.declared.fault.TextFault.{TextFault}
 use Rattle.hexline.specs.declared.fault.TextFault.TheVariants.{Backward}
 use Rattle.hexline.specs.Records.{count_on, address_on, type_on, data_digits}
@@ -35,7 +36,7 @@ up_at top (c ∷ before) d after up = up_at (c.address + length c.digits / 2) be
 -- a line that is not bad by 18 starts at or above the last end
 not_back : (earlier : List TextLine) (l : TextLine) → NoneOf 1 earlier → Clean earlier (l ∷ []) → type_on l.chars ≡ 0 → fold end_next 0 earlier ≤ address_on l.chars
 not_back earlier l none clean t =
-    ⊎_elim (λ back. absurd (clean.0 (Backward l.number l.place) (none, ((refl, refl), (t, λ e s. subst (λ n. address_on l.chars < n) (sym (so_says 0 end_on earlier e s)) back))))) (λ up. up) (cases_lt (address_on l.chars) (fold end_next 0 earlier))
+    ⊎_elim (λ back. absurd (clean.0 (Backward (spot l.number l.place)) (none, ((refl, refl), (t, λ e s. subst (λ n. address_on l.chars < n) (sym (so_says 0 end_on earlier e s)) back))))) (λ up. up) (cases_lt (address_on l.chars) (fold end_next 0 earlier))
 
 lines_up : (earlier ls : List TextLine) → NoneOf 1 earlier → Clean earlier ls → AllByRecursion Counted ls → Up (fold end_next 0 earlier) (flat_map data_in ls)
 lines_up earlier [] none clean counted = tt

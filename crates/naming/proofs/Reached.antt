@@ -4,7 +4,7 @@ use Rattle.std.proofs.lemmas.Bool.{true≢false, ltb-true, lt-ltb, and_parts, an
 use Rattle.std.specs.List.{AllByRecursion}
 use Rattle.hexline.proofs.Pairs.{length_pairs}
 use Rattle.ihex.specs.Named.{DataIs, bytes_in, data_lines, named, reaches_next}
-use Rattle.ihex.proofs.Reaching.{reached}
+use Rattle.checksum.proofs.Passing.{fold-or}
 use Rattle.naming.specs.Bytes.{Names, ReachesSo}
 use Rattle.naming.proofs.Lasts.{by_last}
 
@@ -22,7 +22,7 @@ all_none : (w a : ℕ) (ds : List DataIs) → w ≤ a → fold (reaches_next w) 
 all_none w a [] up e = tt
 all_none w a (d ∷ ds) up e =
     elim (past w d) as (λ b. past w d ≡ b → fold (reaches_next w) b ds ≡ false → AllByRecursion (λ c. Names c a → ⊥) (d ∷ ds)) [
-      | true ↦ (λ _ k. absurd (true≢false (sym (reached w ds) ∙ k)))
+      | true ↦ (λ _ k. absurd (true≢false (sym (fold-or (reaches_next w false) true ds) ∙ k)))
       | false ↦ (λ i k. (none_past w a d up i, all_none w a ds up k))
     ] refl e
 

@@ -3,7 +3,8 @@ use Rattle.std.proofs.Common.{◌≡◌, ℕ, zero, suc, ◌+◌, ◌-◌, ◌/�
 use Rattle.std.proofs.lemmas.List.{length-take, length-drop, take-append-drop, drop_all, nil_from_length}
 use Rattle.std.proofs.lemmas.Bool.{eq-eqb, ne_eqb, le-leb, lt-leb, lt-ltb, le-ltb, and_from, and_left, and_right, cases_lt, cases_eq}
 use Rattle.std.specs.List.{flat_map}
-use Rattle.checksum.proofs.Joins.{joined_append, folded_append}
+use Rattle.std.proofs.lemmas.List.Sums.{fold-append}
+use Rattle.std.proofs.lemmas.Grind.{flat_map-append}
 use Rattle.ihex.specs.Named.{DataIs, bytes_in, data_lines, byte_at, held, named_next}
 use Rattle.ihex.specs.Frames.{Chunk, chunks, line_chunks, numbered}
 use Rattle.naming.specs.Bytes.{Write, writes_from, line_writes, frame_writes, put_next, last_put, FramesWrite}
@@ -41,7 +42,7 @@ line_writes_lem d = chunks_write ((length (bytes_in d) + 127) / 128) d.address (
 
 lines_write : (ds : List DataIs) → flat_map chunk_writes (flat_map line_chunks ds) ≡ flat_map line_writes ds
 lines_write [] = refl
-lines_write (d ∷ ds) = joined_append chunk_writes (line_chunks d) (flat_map line_chunks ds) ∙ ap (λ ws. ws ++ flat_map chunk_writes (flat_map line_chunks ds)) (line_writes_lem d) ∙ ap (λ ws. line_writes d ++ ws) (lines_write ds)
+lines_write (d ∷ ds) = flat_map-append chunk_writes (line_chunks d) (flat_map line_chunks ds) ∙ ap (λ ws. ws ++ flat_map chunk_writes (flat_map line_chunks ds)) (line_writes_lem d) ∙ ap (λ ws. line_writes d ++ ws) (lines_write ds)
 
 numbers_write : (n : ℕ) (cs : List Chunk) → flat_map frame_writes (numbered n cs) ≡ flat_map chunk_writes cs
 unfolding numbered chunk_writes
@@ -88,7 +89,7 @@ puts_byte a start (b ∷ bytes) o = puts_byte a (start + 1) bytes (put_next a o 
 
 puts_lines : (a : ℕ) (ds : List DataIs) (o : Option ℕ) → fold (put_next a) o (flat_map line_writes ds) ≡ fold (named_next a) o ds
 puts_lines a [] o = refl
-puts_lines a (d ∷ ds) o = folded_append (put_next a) o (line_writes d) (flat_map line_writes ds) ∙ ap (λ p. fold (put_next a) p (flat_map line_writes ds)) (puts_byte a d.address (bytes_in d) o) ∙ puts_lines a ds (named_next a o d)
+puts_lines a (d ∷ ds) o = fold-append (put_next a) o (line_writes d) (flat_map line_writes ds) ∙ ap (λ p. fold (put_next a) p (flat_map line_writes ds)) (puts_byte a d.address (bytes_in d) o) ∙ puts_lines a ds (named_next a o d)
 
 pub frames_write : (text : List ℕ) → FramesWrite text
 frames_write text =

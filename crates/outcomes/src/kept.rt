@@ -7,6 +7,7 @@ use sensor::Link;
 
 // Whatever a sensor and a noisy cable can do is allowed to a link's sensor, and nothing else is; and the link forgets no
 // frame that it acknowledged. Does nothing: it is what may be relied on.
+#[tactic(auto, using(crate::proofs::Allowing::all_allowed, crate::proofs::Bounding::all_bounded, crate::proofs::Bounding::forgets_nothing))]
 pub fn vouch<L: Link>(link: &L)
     ensures allows { (s : Sensor) → Allows L.Link.machine.kind s }
     ensures bounded { (s : Sensor) → Bounded L.Link.machine.kind s }

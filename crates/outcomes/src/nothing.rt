@@ -3,10 +3,10 @@ ghost use Rattle.std.specs.Prelude.{◌≡◌};
 ghost use Rattle.sensor.specs.Exchanges.{Exchange, missed};
 ghost use Rattle.outcomes.specs.Unplugged.{unplugged};
 
-use sensor::{Kind, Link};
+use sensor::{Kind, Link, Missed};
 
 // Nothing is ever heard.
-const HEARD: bool = false;
+const HEARD: Result<(), Missed> = Err(Missed);
 
 // A cable with no sensor of its kind on it: every exchange is missed.
 #[derive(Drop)]
@@ -34,11 +34,11 @@ impl<K: Kind> Link for Unplugged<K> {
 
     fn of_its_kind() {}
 
-    fn write(&mut self, register: u8, bytes: &[u8]) -> bool {
+    fn write(&mut self, register: u8, bytes: &[u8]) -> Result<(), Missed> {
         HEARD
     }
 
-    fn read(&mut self, register: u8, buf: &mut [u8]) -> bool {
+    fn read(&mut self, register: u8, buf: &mut [u8]) -> Result<(), Missed> {
         HEARD
     }
 }

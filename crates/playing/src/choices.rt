@@ -7,12 +7,14 @@ use adversary::{Arrival, Choice};
 
 // Nothing goes wrong, and a starting sensor goes on starting.
 fn plain() -> Choice {
-    let mut choice = Choice::clean();
-    choice.starts_before = false;
-    choice
+    Choice {
+        starts_before: false,
+        ..Choice::clean()
+    }
 }
 
-// A choice: each letter, with its digit pairs, changes something of the plain one.
+// A choice: each letter, with its digit pairs, changes something of the plain one. The letter says how many pairs follow it,
+// so what is left comes from the step.
 pub fn choice_of(letters: &[u8]) -> Result<Choice, PlayFault> {
     let mut choice = plain();
     let mut left = letters;
@@ -26,41 +28,21 @@ pub fn choice_of(letters: &[u8]) -> Result<Choice, PlayFault> {
 fn letter<'t>(choice: &mut Choice, first: u8, tail: &'t [u8]) -> Result<&'t [u8], PlayFault>
     ensures { IfOk result (λ rest. length rest.now ≤ length tail.now) }
 {
-    match (first, tail) {
-        (b'.', rest) => Ok(rest),
-        (b'b', rest) => {
-            choice.starts_before = true;
-            Ok(rest)
-        }
-        (b'a', rest) => {
-            choice.starts_after = true;
-            Ok(rest)
-        }
-        (b'u', rest) => {
-            choice.heard = false;
-            Ok(rest)
-        }
-        (b'x', rest) => {
-            choice.obeys = false;
-            Ok(rest)
-        }
-        (b'w', rest) => {
-            choice.working = true;
-            Ok(rest)
-        }
-        (b'k', rest) => {
-            choice.rests = false;
-            Ok(rest)
-        }
-        (b'l', rest) => {
-            choice.arrival = Arrival::Lost;
-            Ok(rest)
-        }
-        _ => letter_with_byte(choice, first, tail),
+    match first {
+        b'.' => {}
+        b'b' => choice.starts_before = true,
+        b'a' => choice.starts_after = true,
+        b'u' => choice.heard = false,
+        b'x' => choice.obeys = false,
+        b'w' => choice.working = true,
+        b'k' => choice.rests = false,
+        b'l' => choice.arrival = Arrival::Lost,
+        _ => return letter_with_byte(choice, first, tail),
     }
+    Ok(tail)
 }
 
-// One letter with a byte.
+// One letter with a byte; the byte at a place is changed to the one that follows.
 fn letter_with_byte<'t>(
     choice: &mut Choice,
     first: u8,
@@ -68,42 +50,26 @@ fn letter_with_byte<'t>(
 ) -> Result<&'t [u8], PlayFault>
     ensures { IfOk result (λ rest. length rest.now ≤ length tail.now) }
 {
-    let [high, low, rest @ ..] = tail else {
-        return Err(PlayFault::NoPlay);
-    };
-    let byte = pair(*high, *low)?;
+    let (byte, rest) = first_byte(tail)?;
     match first {
-        b's' => {
-            choice.status = byte;
-            Ok(rest)
+        b's' => choice.status = byte,
+        b'n' => choice.busy = byte,
+        b't' => choice.arrival = Arrival::Cut { at: byte },
+        b'v' => choice.shown = [byte; 4],
+        b'c' => {
+            let (to, rest) = first_byte(rest)?;
+            choice.arrival = Arrival::Changed { at: byte, to };
+            return Ok(rest);
         }
-        b'n' => {
-            choice.busy = byte;
-            Ok(rest)
-        }
-        b't' => {
-            choice.arrival = Arrival::Cut { at: byte };
-            Ok(rest)
-        }
-        b'v' => {
-            choice.shown = [byte; 4];
-            Ok(rest)
-        }
-        b'c' => changed(choice, byte, rest),
-        _ => Err(PlayFault::NoPlay),
+        _ => return Err(PlayFault::NoPlay),
     }
+    Ok(rest)
 }
 
-// The byte at a place is changed to the one that follows.
-fn changed<'t>(choice: &mut Choice, at: u8, tail: &'t [u8]) -> Result<&'t [u8], PlayFault>
-    ensures { IfOk result (λ rest. length rest.now ≤ length tail.now) }
+// The byte of the digit pair in front, and what follows it.
+fn first_byte(text: &[u8]) -> Result<(u8, &[u8]), PlayFault>
+    ensures { IfOk result (λ r. length r.1.now ≤ length text.now) }
 {
-    let [high, low, rest @ ..] = tail else {
-        return Err(PlayFault::NoPlay);
-    };
-    choice.arrival = Arrival::Changed {
-        at,
-        to: pair(*high, *low)?,
-    };
-    Ok(rest)
+    let (digits, rest) = text.split_at_checked(2).ok_or(PlayFault::NoPlay)?;
+    Ok((pair(digits)?, rest))
 }

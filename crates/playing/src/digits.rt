@@ -1,12 +1,16 @@
 // Digits of base 16.
-ghost use Rattle.std.specs.Prelude.{◌<◌, IfOk};
+ghost use Rattle.std.specs.Prelude.{◌≡◌, ◌<◌, IfOk};
+ghost use Rattle.std.specs.Option.{ok_or};
+ghost use Rattle.playing.specs.declared.fault.PlayFault.TheVariants.{NoPairs};
+ghost use Rattle.playing.specs.Pairs.{value_of, byte_of};
 
 use super::fault::PlayFault;
 use std::alloc::Global;
 
-// The value of a digit.
+// The value of a digit, capital from ten on.
 pub fn digit(c: u8) -> Result<u8, PlayFault>
-    ensures { IfOk result (λ d. d < 16) }
+    ensures value { result ≡ ok_or (value_of c) NoPairs }
+    ensures bound { IfOk result (λ d. d < 16) }
 {
     match c {
         b'0'..=b'9' => Ok(c - b'0'),
@@ -16,23 +20,20 @@ pub fn digit(c: u8) -> Result<u8, PlayFault>
 }
 
 // The byte of two digits.
-pub fn pair(high: u8, low: u8) -> Result<u8, PlayFault> {
-    Ok(digit(high)? * 16 + digit(low)?)
+pub fn pair(digits: &[u8]) -> Result<u8, PlayFault>
+    ensures { result ≡ ok_or (byte_of digits.now) NoPairs }
+{
+    match digits {
+        [high, low] => Ok(16 * digit(*high)? + digit(*low)?),
+        _ => Err(PlayFault::NoPairs),
+    }
 }
 
 // The bytes of digit pairs, which may have spaces between them.
 pub fn paired(heap: Global, digits: &[u8]) -> Result<Vec<u8>, PlayFault> {
-    let mut out = Vec::new(heap);
-    let mut left = digits;
-    while let [first, tail @ ..] = left {
-        left = tail;
-        if *first != b' ' {
-            let [low, rest @ ..] = tail else {
-                return Err(PlayFault::NoPairs);
-            };
-            out.push(pair(*first, *low)?)?;
-            left = rest;
-        }
-    }
-    Ok(out)
+    digits
+        .split(|c| *c == b' ')
+        .flat_map(|word| word.chunks(2))
+        .map(pair)
+        .try_collect(heap)
 }

@@ -5,8 +5,9 @@ mod choices;
 mod digits;
 mod fault;
 mod links;
+mod player;
 mod plays;
 
-pub use digits::paired;
+pub use digits::{pair, paired};
 pub use fault::PlayFault;
 pub use plays::{Played, play, play_choices};

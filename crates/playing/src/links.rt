@@ -3,19 +3,13 @@ use adversary::Adversary;
 use cable::Cable;
 use chip::State;
 use sensor::Link;
-use simulator::{SimulatedTmf8x0x, SimulatedTmf882x};
+use simulator::Simulated;
 
 pub trait Seen {
     fn seen(&self) -> State;
 }
 
-impl Seen for SimulatedTmf8x0x<'_> {
-    fn seen(&self) -> State {
-        self.state()
-    }
-}
-
-impl Seen for SimulatedTmf882x<'_> {
+impl<K> Seen for Simulated<'_, K> {
     fn seen(&self) -> State {
         self.state()
     }

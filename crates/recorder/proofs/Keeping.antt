@@ -1,6 +1,7 @@
 -- Proofs of a recorder's laws. Assumes nothing.
-use Rattle.std.proofs.Common.{◌≡◌, ℕ, ◌+◌, ◌<◌, ◌≤◌, Bool, true, false, cond, ltb, List, [], ◌∷◌, ◌++◌, length, sym, refl, ap, ◌∙◌, subst, append_assoc, append-nil, arith, length-append}
-use Rattle.std.proofs.lemmas.Bool.{lt-ltb, le-ltb, ltb-true, ltb-false}
+use Rattle.std.proofs.Common.{◌≡◌, ℕ, ◌+◌, ◌<◌, ◌≤◌, Bool, true, false, List, [], ◌∷◌, ◌++◌, length, sym, refl, ap, ◌∙◌, subst, append_assoc, append-nil, arith, length-append, ⊎_elim}
+use Rattle.std.proofs.lemmas.Bool.{cases_lt}
+use Rattle.std.proofs.lemmas.Bool.Decides.{nat_tests}
 use Rattle.sensor.specs.Exchanges.{Exchange, Answer}
 use Rattle.sensor.specs.Machines.{Machine}
 use Rattle.recorder.specs.Kept.{Kept, kept}
@@ -21,18 +22,11 @@ book log room short = record { log = log; room = room; short = short }
 abbrev stands : {S : Type 0} → S → Book → Recording S
 stands under b = record { under = under; book = b }
 
--- the two ways of a note
-abbrev by_room : List Kept → ℕ → Bool → Kept → Bool → Book
-by_room log room short k b = cond b (book (log ++ k ∷ []) room short) (book log room true)
-
 noted_kept : (log : List Kept) (room : ℕ) (short : Bool) (k : Kept) → length log < room → noted k (book log room short) ≡ book (log ++ k ∷ []) room short
-noted_kept log room short k lt = ap (by_room log room short k) (lt-ltb (length log) room lt)
+noted_kept log room short k lt = grind (arith, nat_tests)
 
 noted_short : (log : List Kept) (room : ℕ) (short : Bool) (k : Kept) → room ≤ length log → noted k (book log room short) ≡ book log room true
-noted_short log room short k le = ap (by_room log room short k) (le-ltb (length log) room le)
-
-length_more : (log : List Kept) (k : Kept) → length (log ++ k ∷ []) ≡ length log + 1
-length_more log k = length-append log (k ∷ [])
+noted_short log room short k le = grind (arith, nat_tests)
 
 -- with room for all
 all_kept :
@@ -44,16 +38,14 @@ all_kept m under log room (e ∷ es) h =
     let k = kept e (m.step under e).answer in
     let next = (m.step under e).next in
     let lt : length log < room = omega arith in
-    let le : length (log ++ k ∷ []) + length es ≤ room = omega (arith, length_more log k) in
+    let le : length (log ++ k ∷ []) + length es ≤ room = omega (arith, length-append log (k ∷ [])) in
     ap (λ (b : Book). (after (recording m) (stands next b) es).book) (noted_kept log room false k lt)
     ∙ all_kept m next (log ++ k ∷ []) room es le
     ∙ ap (λ (l : List Kept). book l room false) (append_assoc log (k ∷ []) (spoken m next es))
 
 -- a short record stays short
-
-noted_stays : (log : List Kept) (room : ℕ) (k : Kept) (b : Bool) → (by_room log room true k b).short ≡ true
-noted_stays log room k true = refl
-noted_stays log room k false = refl
+noted_stays : (b : Book) (k : Kept) → b.short ≡ true → (noted k b).short ≡ true
+noted_stays b k h = grind (arith, nat_tests)
 
 stays_short :
     {S : Type 0} (m : Machine S) (under : S) (b : Book) (es : List Exchange)
@@ -62,9 +54,7 @@ stays_short :
 stays_short m under b [] h = h
 stays_short m under b (e ∷ es) h =
     let k = kept e (m.step under e).answer in
-    stays_short m (m.step under e).next (noted k b) es
-    (ap (λ (short : Bool). (by_room b.log b.room short k (ltb (length b.log) b.room)).short) h
-    ∙ noted_stays b.log b.room k (ltb (length b.log) b.room))
+    stays_short m (m.step under e).next (noted k b) es (noted_stays b k h)
 
 -- with too little room
 too_much :
@@ -79,17 +69,12 @@ too_much {S} m under log room (e ∷ es) le h =
     let k = kept e (m.step under e).answer in
     let next = (m.step under e).next in
     let goal : Book → Type 0 = λ b. (after (recording m) (stands next b) es).book.short ≡ true in
-    elim (ltb (length log) room) as (λ b. ltb (length log) room ≡ b → goal (noted k (book log room false))) [
-      | true ↦
-          (λ t.
-          let lt : length log < room = ltb-true _ _ t in
-          let fits : length (log ++ k ∷ []) ≤ room = omega (arith, length_more log k) in
-          let more : room < length (log ++ k ∷ []) + length es = omega (arith, length_more log k) in
-          subst goal (sym (noted_kept log room false k lt)) (too_much m next (log ++ k ∷ []) room es fits more))
-      | false ↦
-          (λ t. subst goal (sym (noted_short log room false k (ltb-false _ _ t))) (stays_short m next (book log room true) es refl))
-    ]
-    refl
+    ⊎_elim
+    (λ (lt : length log < room).
+    let long = length-append log (k ∷ []) in
+    subst goal (sym (noted_kept log room false k lt)) (too_much m next (log ++ k ∷ []) room es (omega arith) (omega arith)))
+    (λ (full : room ≤ length log). subst goal (sym (noted_short log room false k full)) (stays_short m next (book log room true) es refl))
+    (cases_lt (length log) room)
 
 pub all : {S : Type 0} (m : Machine S) → RecordsAll m
 all m under room es =

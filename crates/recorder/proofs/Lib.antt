@@ -1,2 +1,2 @@
-mod Noting
+mod Padding
 pub mod Keeping

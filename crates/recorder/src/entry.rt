@@ -1,34 +1,28 @@
 // One exchange with its answer, as it is kept.
-ghost use Rattle.std.specs.Prelude.{◌≡◌, ◌≤◌, true, cond, length, take};
-ghost use Rattle.sensor.specs.Exchanges.{writes, reads, acknowledged, missed, filled};
-ghost use Rattle.recorder.specs.Kept.{kept, meaning, bytes_of, payload_of};
+ghost use Rattle.std.specs.Prelude.{◌≡◌, ◌≤◌, length, OnOk};
+ghost use Rattle.sensor.specs.Exchanges.{writes, reads, acknowledged, filled, heard};
+ghost use Rattle.recorder.specs.Kept.{kept, meaning, payload_of};
 
-// The most bytes that a link takes or gives in one exchange.
-const MOST_BYTES: usize = 131;
+use super::bytes::Bytes;
+use sensor::{Missed, can_write};
 
 #[derive(Clone, Copy, PartialEq, Eq, Debug)]
 pub enum Asked {
     Write,
-    Read,
+    // A write of a size that a link does not have: its bytes are not kept.
+    WriteOffSize(usize),
+    // A read of so many bytes.
+    Read(usize),
 }
 
-// What was answered.
+// A struct with an enum of numbers, since a `Vec` of an enum that holds the bytes gets no proof yet.
 #[derive(Clone, Copy, PartialEq, Eq, Debug)]
-pub enum Heard {
-    Acknowledged,
-    Filled,
-    Missed,
-}
-
-#[derive(Clone, Copy)]
 pub struct Recorded {
-    pub asked: Asked,
     pub register: u8,
-    // How many bytes were to be written or read.
-    pub size: usize,
-    // At the front, the bytes of a write that a link has, or of a filled read.
-    pub bytes: [u8; MOST_BYTES],
-    pub heard: Heard,
+    pub asked: Asked,
+    // Those of a write, or of a filled read.
+    pub bytes: Bytes,
+    pub answer: Result<(), Missed>,
 }
 
 impl Recorded {
@@ -36,68 +30,43 @@ impl Recorded {
     pub fn payload(&self) -> &[u8]
         ensures { result.now ≡ payload_of self.now }
     {
-        match (self.asked, self.heard) {
-            (Asked::Read, Heard::Missed) => &self.bytes[0..0],
-            _ => self.front_bytes(),
+        match (self.asked, self.answer) {
+            (Asked::Write, _) | (Asked::Read(_), Ok(())) => self.bytes.as_slice(),
+            _ => &[],
         }
-    }
-
-    fn front_bytes(&self) -> &[u8]
-        ensures { result.now ≡ bytes_of self.now }
-    {
-        if self.size > MOST_BYTES {
-            return &self.bytes[0..0];
-        }
-        &self.bytes[0..self.size]
     }
 
     // A write.
-    pub(crate) fn of_write(register: u8, bytes: &[u8], was_acknowledged: bool) -> Recorded
-        ensures { meaning result ≡ kept (writes register bytes.now) (cond was_acknowledged acknowledged missed) }
+    pub(crate) fn of_write(register: u8, bytes: &[u8], answer: Result<(), Missed>) -> Recorded
+        ensures { meaning result ≡ kept (writes register bytes.now) (heard answer acknowledged) }
     {
+        let size = bytes.len();
+        if !can_write(size) {
+            return Recorded {
+                register,
+                asked: Asked::WriteOffSize(size),
+                bytes: Bytes::of(&[]),
+                answer,
+            };
+        }
         Recorded {
-            asked: Asked::Write,
             register,
-            size: bytes.len(),
-            bytes: front(bytes),
-            heard: if was_acknowledged {
-                Heard::Acknowledged
-            } else {
-                Heard::Missed
-            },
+            asked: Asked::Write,
+            bytes: Bytes::of(bytes),
+            answer,
         }
     }
 
     // A read, with what the buffer has after it.
-    pub(crate) fn of_read(register: u8, buf: &[u8], was_filled: bool) -> Recorded
-        ensures { (was_filled ≡ true → length buf.now ≤ 131) → meaning result ≡ kept (reads register (length buf.now)) (cond was_filled (filled buf.now) missed) }
+    pub(crate) fn of_read(register: u8, buf: &[u8], answer: Result<(), Missed>) -> Recorded
+        requires { OnOk answer (length buf.now ≤ 131) }
+        ensures { meaning result ≡ kept (reads register (length buf.now)) (heard answer (filled buf.now)) }
     {
-        if !was_filled {
-            return Recorded {
-                asked: Asked::Read,
-                register,
-                size: buf.len(),
-                bytes: [0; MOST_BYTES],
-                heard: Heard::Missed,
-            };
-        }
         Recorded {
-            asked: Asked::Read,
             register,
-            size: buf.len(),
-            bytes: front(buf),
-            heard: Heard::Filled,
+            asked: Asked::Read(buf.len()),
+            bytes: Bytes::of(if answer.is_ok() { buf } else { &[] }),
+            answer,
         }
     }
-}
-
-// The bytes at the front of zeros, or zeros alone where they are too many.
-fn front(bytes: &[u8]) -> [u8; MOST_BYTES]
-    ensures { length bytes.now ≤ 131 → take (length bytes.now) result ≡ bytes.now }
-{
-    let mut all = [0u8; MOST_BYTES];
-    if bytes.len() <= MOST_BYTES {
-        all[0..bytes.len()].copy_from_slice(bytes);
-    }
-    all
 }

@@ -2,22 +2,33 @@
 ghost use Rattle.std.specs.Prelude.{◌≡◌, true, false, map, IfOk, MatchOption};
 ghost use Rattle.recorder.specs.Kept.{meaning};
 ghost use Rattle.recorder.specs.Books.{Blank, noted};
-ghost use Rattle.recorder.specs.Viewed.{book_of};
 
 use super::entry::Recorded;
 use std::alloc::{AllocError, Global};
+use std::marker::Model;
 
 #[derive(Drop)]
 pub struct Notes {
     entries: Vec<Recorded>,
-    // An exchange was not kept for want of room.
+    // An exchange was not kept for want of room. A flag, since the entries stay as they were then.
     short: bool,
+}
+
+// Clauses see the book that they say.
+impl Model for Notes {
+    ghost use Rattle.recorder.specs.Books.{Book};
+
+    ghost Value = { Book };
+
+    ghost use Rattle.recorder.specs.Viewed.{book_of};
+
+    ghost view = { book_of };
 }
 
 impl Notes {
     // Takes all the memory that they will have.
     pub fn with_room(heap: Global, room: usize) -> Result<Notes, AllocError>
-        ensures { IfOk result (λ n. Blank room (book_of n)) }
+        ensures { IfOk result (Blank room) }
     {
         let entries = Vec::with_capacity(heap, room)?;
         Ok(Notes {
@@ -27,7 +38,7 @@ impl Notes {
     }
 
     pub fn note(&mut self, entry: Recorded)
-        ensures { book_of self.new ≡ noted (meaning entry) (book_of self.old) }
+        ensures { self.new ≡ noted (meaning entry) self.old }
     {
         if self.entries.len() < self.entries.capacity() {
             self.entries.push_reserved(entry);
@@ -37,13 +48,13 @@ impl Notes {
     }
 
     pub fn is_short(&self) -> bool
-        ensures { result ≡ (book_of self.now).short }
+        ensures { result ≡ self.now.short }
     {
         self.short
     }
 
     pub fn whole(&self) -> Option<&[Recorded]>
-        ensures { MatchOption result ((book_of self.now).short ≡ true) (λ s. ((book_of self.now).short ≡ false) × (map meaning s.now ≡ (book_of self.now).log)) }
+        ensures { MatchOption result (self.now.short ≡ true) (λ s. (self.now.short ≡ false) × (map meaning s.now ≡ self.now.log)) }
     {
         if self.short {
             return None;

@@ -52,7 +52,7 @@ Lowest rs f = Broken rs f × ((g : TextFault) → Broken rs g → number_of f �
 
 -- what decides is the lowest number that is broken
 pub decides_lowest : {X : Type 0} (rs : List Rule) (x : X) (f : TextFault) → Ascends rs → decided rs x ≡ Err f → Lowest rs f
-decides_lowest [] x f up e = let z : ◌≡◌ {A = ℕ} 0 1 = cc in absurd (omega arith)
+decides_lowest [] x f up e = cc
 decides_lowest (r ∷ rs) x f up e =
     elim r.broken as (λ b. r.broken ≡ b → cond b (Err r.fault) (decided rs x) ≡ Err f → Lowest (r ∷ rs) f) [
       | true ↦ (λ is k. let same : r.fault ≡ f = cc in (inl (is, same), λ g b. elim b [ inl y ↦ (let eq : f ≡ g = sym same ∙ y.1 in subst (λ h. number_of f ≤ number_of h) eq (omega arith)) | inr y ↦ (let above = broken_above (number_of r.fault) rs g up.0 y in subst (λ h. number_of h ≤ number_of g) same (omega arith)) ]))

@@ -1,5 +1,5 @@
 -- The first bad line decides. Assumes nothing.
-use Rattle.std.proofs.Common.{◌≡◌, ℕ, ◌≤◌, List, [], ◌∷◌, ◌++◌, Ok, Err, Result, sym, refl, ap, ◌∙◌, subst, arith}
+use Rattle.std.proofs.Common.{◌≡◌, ◌≤◌, List, [], ◌∷◌, ◌++◌, Ok, Err, Result, sym, refl, ap, ◌∙◌, subst}
 use Rattle.std.proofs.lemmas.List.{append-nil, append_assoc}
 use Rattle.checksum.specs.Outcomes.{and_then}
 use Rattle.hexline.specs.declared.fault.TextFault.{TextFault}
@@ -49,7 +49,7 @@ kept_clean earlier (l ∷ ls) s e =
     let d = decision earlier l in
     elim d as (λ r. d ≡ r → and_then r (λ _. lines_kept (earlier ++ (l ∷ [])) ls) ≡ Ok s → Clean earlier (l ∷ ls)) [
       | Ok v ↦ (λ is k. (kept_good earlier l v is, kept_clean (earlier ++ (l ∷ [])) ls s k))
-      | Err f ↦ (λ is k. let z : ◌≡◌ {A = ℕ} 0 1 = cc in absurd (omega arith))
+      | Err f ↦ (λ is k. cc)
     ] refl e
 
 -- the first bad line after those before it
@@ -64,7 +64,7 @@ pub record Found (earlier ls : List TextLine) (f : TextFault) : Type 0 where
 
 pub stopped_found : (earlier ls : List TextLine) (f : TextFault) → lines_kept earlier ls ≡ Err f → Found earlier ls f
 unfolding lines_kept
-stopped_found earlier [] f e = let z : ◌≡◌ {A = ℕ} 0 1 = cc in absurd (omega arith)
+stopped_found earlier [] f e = cc
 stopped_found earlier (l ∷ ls) f e =
     let d = decision earlier l in
     elim d as (λ r. d ≡ r → and_then r (λ _. lines_kept (earlier ++ (l ∷ [])) ls) ≡ Err f → Found earlier (l ∷ ls) f) [

@@ -1,11 +1,12 @@
 -- What the last line of a type says, and whether there was an end line. Assumes nothing.
 use Rattle.std.proofs.Common.{◌≡◌, ℕ, true, false, cond, eqb, ◌⊎◌, List, [], ◌∷◌, fold, sym, refl, ap, ◌∙◌, inl, inr}
 use Rattle.std.proofs.lemmas.Bool.{true≢false, eqb-true, eqb-false, eq-eqb, ne_eqb, cond-true, cond-false}
-use Rattle.checksum.proofs.Joins.{folded_append}
+use Rattle.std.proofs.lemmas.List.Sums.{fold-append}
 use Rattle.hexline.specs.Records.{type_on}
 use Rattle.ihex.specs.declared.reads.Seen.{Seen}
 use Rattle.ihex.specs.Texts.{TextLine}
-use Rattle.ihex.specs.Reads.{upper_next, end_next, names_next, ends_next, seen_next}
+use Rattle.checksum.proofs.Passing.{fold-or}
+use Rattle.ihex.specs.Reads.{upper_next, end_next, names_next, ends_next, seen_next, is_end}
 use Rattle.refusals.specs.Bad.{NoneOf, LastOf, LastSays}
 
 module _ (t : ℕ) (says : List ℕ → ℕ) where
@@ -37,35 +38,31 @@ module _ (t : ℕ) (says : List ℕ → ℕ) where
       o.value
       ∙ sym (cond-true (eqb (type_on o.line.chars) t) (says o.line.chars) (fold next 0 o.before) (eq-eqb (type_on o.line.chars) t o.type))
       ∙ sym (none_folded (next (fold next 0 o.before) o.line) o.after o.last)
-      ∙ sym (folded_append next 0 o.before (o.line ∷ o.after))
+      ∙ sym (fold-append next 0 o.before (o.line ∷ o.after))
       ∙ ap (fold next 0) (sym o.place)
 
 -- the parts of what was seen
+seen_part : {X : Type 0} (part : Seen → X) (next : X → TextLine → X) → ((s : Seen) (l : TextLine) → part (seen_next s l) ≡ next (part s) l) → (s : Seen) (ls : List TextLine) → part (fold seen_next s ls) ≡ fold next (part s) ls
+seen_part part next same s [] = refl
+seen_part part next same s (l ∷ ls) = seen_part part next same (seen_next s l) ls ∙ ap (λ x. fold next x ls) (same s l)
+
 pub upper_seen : (s : Seen) (ls : List TextLine) → (fold seen_next s ls).upper ≡ fold upper_next s.upper ls
-upper_seen s [] = refl
-upper_seen s (l ∷ ls) = upper_seen (seen_next s l) ls
+upper_seen = seen_part (λ s. s.upper) upper_next (λ s l. refl)
 
 pub top_seen : (s : Seen) (ls : List TextLine) → (fold seen_next s ls).top ≡ fold end_next s.top ls
-top_seen s [] = refl
-top_seen s (l ∷ ls) = top_seen (seen_next s l) ls
+top_seen = seen_part (λ s. s.top) end_next (λ s l. refl)
 
 pub names_seen : (s : Seen) (ls : List TextLine) → (fold seen_next s ls).names ≡ fold names_next s.names ls
-names_seen s [] = refl
-names_seen s (l ∷ ls) = names_seen (seen_next s l) ls
+names_seen = seen_part (λ s. s.names) names_next (λ s l. refl)
 
 pub ended_seen : (s : Seen) (ls : List TextLine) → (fold seen_next s ls).ended ≡ fold ends_next s.ended ls
-ended_seen s [] = refl
-ended_seen s (l ∷ ls) = ended_seen (seen_next s l) ls
-
-ends_stay : (ls : List TextLine) → fold ends_next true ls ≡ true
-ends_stay [] = refl
-ends_stay (l ∷ ls) = ends_stay ls
+ended_seen = seen_part (λ s. s.ended) ends_next (λ s l. refl)
 
 pub ends_none : (ls : List TextLine) → fold ends_next false ls ≡ false → NoneOf 1 ls
 ends_none [] e = tt
 ends_none (l ∷ ls) e =
     elim (eqb (type_on l.chars) 1) as (λ b. eqb (type_on l.chars) 1 ≡ b → fold ends_next b ls ≡ false → NoneOf 1 (l ∷ ls)) [
-      | true ↦ (λ _ k. absurd (true≢false (sym (ends_stay ls) ∙ k)))
+      | true ↦ (λ _ k. absurd (true≢false (sym (fold-or is_end true ls) ∙ k)))
       | false ↦ (λ i k. (eqb-false (type_on l.chars) 1 i, ends_none ls k))
     ] refl e
 

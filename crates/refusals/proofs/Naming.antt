@@ -3,9 +3,10 @@ use Rattle.std.proofs.Common.{◌≡◌, ℕ, ◌+◌, ◌-◌, ◌*◌, ◌/◌
 use Rattle.std.proofs.lemmas.List.{length-take}
 use Rattle.std.proofs.lemmas.Bool.{true≢false, and_parts, and_from, and_left, and_right, le-leb, lt-leb, lt-ltb, le-ltb, ltb-true, ltb-false, cases_lt}
 use Rattle.std.specs.List.{flat_map, AllByRecursion}
-use Rattle.checksum.proofs.Joins.{folded_append}
+use Rattle.std.proofs.lemmas.List.Sums.{fold-append}
 use Rattle.hexline.specs.Records.{count_on, address_on, data_digits}
 use Rattle.hexline.proofs.Pairs.{length_pairs, pairs_none}
+use Rattle.checksum.proofs.Passing.{fold-or}
 use Rattle.ihex.specs.Texts.{TextLine}
 use Rattle.ihex.specs.Reads.{is_data, names_next}
 use Rattle.ihex.specs.Named.{DataIs, bytes_in, data_in, byte_at, held, named_next}
@@ -36,10 +37,6 @@ some_stays a b (d ∷ ds) =
       | None ↦ (λ e. let rest = some_stays a b ds in (rest.0, ap (λ o. fold (named_next a) (held (Some b) o) ds) e ∙ rest.1))
     ] refl
 
-names_stay : (ls : List TextLine) → fold names_next true ls ≡ true
-names_stay [] = refl
-names_stay (l ∷ ls) = names_stay ls
-
 -- a line that has no data, or no byte of it, names nothing
 line_none : (a : ℕ) (o : Option ℕ) (l : TextLine) → (is_data l && ltb 0 (count_on l.chars)) ≡ false → fold (named_next a) o (data_in l) ≡ o
 line_none a o l none =
@@ -56,8 +53,8 @@ none_named [] e a o = refl
 none_named (l ∷ ls) e a o =
     let flag = is_data l && ltb 0 (count_on l.chars) in
     elim flag as (λ b. flag ≡ b → fold names_next b ls ≡ false → fold (named_next a) o (flat_map data_in (l ∷ ls)) ≡ o) [
-      | true ↦ (λ _ k. absurd (true≢false (sym (names_stay ls) ∙ k)))
-      | false ↦ (λ i k. folded_append (named_next a) o (data_in l) (flat_map data_in ls) ∙ ap (λ p. fold (named_next a) p (flat_map data_in ls)) (line_none a o l i) ∙ none_named ls k a o)
+      | true ↦ (λ _ k. absurd (true≢false (sym (fold-or (λ m. is_data m && ltb 0 (count_on m.chars)) true ls) ∙ k)))
+      | false ↦ (λ i k. fold-append (named_next a) o (data_in l) (flat_map data_in ls) ∙ ap (λ p. fold (named_next a) p (flat_map data_in ls)) (line_none a o l i) ∙ none_named ls k a o)
     ] refl e
 
 pub some_named : (ls : List TextLine) → AllByRecursion Counted ls → fold names_next false ls ≡ true → (o : Option ℕ) → (a : ℕ) × (b : ℕ) × (fold (named_next a) o (flat_map data_in ls) ≡ Some b)
@@ -74,5 +71,5 @@ some_named (l ∷ ls) counted e o =
           (start, rest.0, ap (λ t. fold (named_next start) o (cond t (data_of l ∷ []) [] ++ flat_map data_in ls)) parts.0 ∙ ap (λ p. fold (named_next start) (held o p) (flat_map data_in ls)) (byte_first start bytes some) ∙ rest.1))
       | false ↦ (λ i k.
           let rest = some_named ls counted.1 k o in
-          (rest.0, rest.1, folded_append (named_next rest.0) o (data_in l) (flat_map data_in ls) ∙ ap (λ p. fold (named_next rest.0) p (flat_map data_in ls)) (line_none rest.0 o l i) ∙ rest.2))
+          (rest.0, rest.1, fold-append (named_next rest.0) o (data_in l) (flat_map data_in ls) ∙ ap (λ p. fold (named_next rest.0) p (flat_map data_in ls)) (line_none rest.0 o l i) ∙ rest.2))
     ] refl e

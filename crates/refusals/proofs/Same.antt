@@ -3,12 +3,13 @@ use Rattle.std.proofs.Common.{◌≡◌, ℕ, ◌+◌, ◌<◌, true, false, con
 use Rattle.std.proofs.lemmas.Bool.{true≢false, not-true, not_from_false, eqb-false, eq-eqb, ne_eqb, ltb-true, lt-ltb, cases_Bool, cases_eq}
 use Rattle.hexline.specs.declared.fault.TextFault.{TextFault}
 use Rattle.hexline.specs.declared.fault.TextFault.TheVariants.{TooLong, NoColon, NoDigit, WrongLength, WrongSum, UnknownType, WrongShape, WrongUpper, Backward, PastTop, NoEnd, AfterEnd, NothingNamed, RowLength}
-use Rattle.hexline.specs.Faults.{rule}
+use Rattle.hexline.specs.declared.spot.Spot.{Spot}
+use Rattle.hexline.specs.Faults.{rule, spot}
 use Rattle.hexline.specs.Records.{count_on, address_on, type_on, upper_on, stray_on}
 use Rattle.hexline.specs.Lines.{line_rules}
 use Rattle.ihex.specs.Texts.{TextLine}
 use Rattle.ihex.specs.Reads.{upper_next, end_next, ends_next, nothing_seen, seen_after, data_rules, order_rules, rules_beside}
-use Rattle.refusals.specs.Bad.{NoneOf, end_on, Bad}
+use Rattle.refusals.specs.Bad.{NoneOf, end_on, At, Bad}
 use Rattle.refusals.proofs.Broken.{Broken, Ascends, chain_ascends, broken_left, broken_right, broken_either}
 use Rattle.refusals.proofs.Tests.{colon_off, off_colon, stray_so, stray_is, is_stray, missing_so, so_missing, sum_so, so_sum, unknown_so, so_unknown, shapes_so, so_shapes}
 use Rattle.refusals.proofs.Lasts.{says_so, so_says, upper_seen, top_seen, ended_seen, ends_none, none_ends}
@@ -26,13 +27,13 @@ module _ (earlier : List TextLine) (l : TextLine) where
   ended_is : (seen_after earlier).ended ≡ fold ends_next false earlier
   ended_is = ended_seen nothing_seen earlier
 
-  ended_rules : (seen_after earlier).ended ≡ true → rules_beside (seen_after earlier) l ≡ rule true (AfterEnd l.number l.place) ∷ []
+  ended_rules : (seen_after earlier).ended ≡ true → rules_beside (seen_after earlier) l ≡ rule true (AfterEnd (spot l.number l.place)) ∷ []
   unfolding rules_beside
-  ended_rules e = ap (λ b. cond b (rule true (AfterEnd l.number l.place) ∷ []) (line_rules l.number l.place l.chars ++ order_rules (seen_after earlier).upper (seen_after earlier).top l)) e
+  ended_rules e = ap (λ b. cond b (rule true (AfterEnd (spot l.number l.place)) ∷ []) (line_rules l.number l.place l.chars ++ order_rules (seen_after earlier).upper (seen_after earlier).top l)) e
 
   going_rules : (seen_after earlier).ended ≡ false → rules_beside (seen_after earlier) l ≡ line_rules l.number l.place l.chars ++ order_rules (seen_after earlier).upper (seen_after earlier).top l
   unfolding rules_beside
-  going_rules e = ap (λ b. cond b (rule true (AfterEnd l.number l.place) ∷ []) (line_rules l.number l.place l.chars ++ order_rules (seen_after earlier).upper (seen_after earlier).top l)) e
+  going_rules e = ap (λ b. cond b (rule true (AfterEnd (spot l.number l.place)) ∷ []) (line_rules l.number l.place l.chars ++ order_rules (seen_after earlier).upper (seen_after earlier).top l)) e
 
   -- data
   data_rules_lem : type_on l.chars ≡ 0 → order_rules (seen_after earlier).upper (seen_after earlier).top l ≡ data_rules (seen_after earlier).upper (seen_after earlier).top (address_on l.chars) (count_on l.chars) l.number l.place
@@ -78,25 +79,25 @@ module _ (earlier : List TextLine) (l : TextLine) where
     in_data : (g : TextFault) → type_on l.chars ≡ 0 → Broken (data_rules (seen_after earlier).upper (seen_after earlier).top (address_on l.chars) (count_on l.chars) l.number l.place) g → Broken (rules_beside (seen_after earlier) l) g
     in_data g t b = subst (λ rs. Broken rs g) (sym (going_rules (ended_is ∙ none_ends earlier none))) (broken_right (line_rules l.number l.place l.chars) (order_rules (seen_after earlier).upper (seen_after earlier).top l) g (subst (λ rs. Broken rs g) (sym (data_rules_lem t)) b))
 
-  at_line : (f : ℕ → ℕ → TextFault) (ln p : ℕ) → (ln ≡ l.number) × (p ≡ l.place) → f l.number l.place ≡ f ln p
-  at_line f ln p at = ap (λ n. f n l.place) (sym at.0) ∙ ap (f ln) (sym at.1)
+  at_line : (f : Spot → TextFault) (at : Spot) → At at l → f (spot l.number l.place) ≡ f at
+  at_line f at here = ap (λ n. f (spot n l.place)) (sym here.0) ∙ ap (λ p. f (spot at.line p)) (sym here.1)
 
   -- a line that is bad breaks that rule
   pub bad_broken : (g : TextFault) → Bad earlier l g → Broken (rules_beside (seen_after earlier) l) g
-  bad_broken (NoColon ln p) b = in_line b.0 _ (inl (off_colon l.chars b.1.1, at_line NoColon ln p b.1.0))
-  bad_broken (NoDigit ln p) b = in_line b.0 _ (inr (inl (is_stray l.chars b.1.1.0 b.1.1.2, ap (λ n. NoDigit n (l.place + stray_on l.chars)) (sym b.1.0) ∙ ap (NoDigit ln) (ap (λ k. l.place + k) (stray_is l.chars b.1.1.0 b.1.1.2) ∙ sym b.1.1.1))))
-  bad_broken (WrongLength ln p) b = in_line b.0 _ (inr (inr (inl (so_missing l.chars b.1.1, at_line WrongLength ln p b.1.0))))
-  bad_broken (WrongSum ln p) b = in_line b.0 _ (inr (inr (inr (inl (so_sum l.chars b.1.1, at_line WrongSum ln p b.1.0)))))
-  bad_broken (UnknownType ln p) b = in_line b.0 _ (inr (inr (inr (inr (inl (so_unknown l.chars b.1.1, at_line UnknownType ln p b.1.0))))))
-  bad_broken (WrongShape ln p) b = in_line b.0 _ (inr (inr (inr (inr (inr (inl (so_shapes l.chars b.1.1, at_line WrongShape ln p b.1.0)))))))
-  bad_broken (WrongUpper ln p) b = in_data b.0 _ b.1.1.0 (inl (not_from_false (eqb (seen_after earlier).upper 0x2000) (ne_eqb (seen_after earlier).upper 0x2000 (λ e. b.1.1.1 (fold upper_next 0 earlier) (says_so 4 upper_on earlier) (sym upper_is ∙ e))), at_line WrongUpper ln p b.1.0))
-  bad_broken (Backward ln p) b = in_data b.0 _ b.1.1.0 (inr (inl (lt-ltb (address_on l.chars) (seen_after earlier).top (subst (λ n. address_on l.chars < n) (sym top_is) (b.1.1.1 (fold end_next 0 earlier) (says_so 0 end_on earlier))), at_line Backward ln p b.1.0)))
-  bad_broken (PastTop ln p) b = in_data b.0 _ b.1.1.0 (inr (inr (inl (lt-ltb 65536 (address_on l.chars + count_on l.chars) b.1.1.1, at_line PastTop ln p b.1.0))))
-  bad_broken (AfterEnd ln p) b =
-      ⊎_elim (λ e. subst (λ rs. Broken rs (AfterEnd ln p)) (sym (ended_rules e)) (inl (refl, at_line AfterEnd ln p b.0))) (λ e. absurd (b.1 (ends_none earlier (sym ended_is ∙ e)))) (cases_Bool (seen_after earlier).ended)
+  bad_broken (NoColon at) b = in_line b.0 _ (inl (off_colon l.chars b.1.1, at_line NoColon at b.1.0))
+  bad_broken (NoDigit at) b = in_line b.0 _ (inr (inl (is_stray l.chars b.1.1.0 b.1.1.2, ap (λ n. NoDigit (spot n (l.place + stray_on l.chars))) (sym b.1.0) ∙ ap (λ p. NoDigit (spot at.line p)) (ap (λ k. l.place + k) (stray_is l.chars b.1.1.0 b.1.1.2) ∙ sym b.1.1.1))))
+  bad_broken (WrongLength at) b = in_line b.0 _ (inr (inr (inl (so_missing l.chars b.1.1, at_line WrongLength at b.1.0))))
+  bad_broken (WrongSum at) b = in_line b.0 _ (inr (inr (inr (inl (so_sum l.chars b.1.1, at_line WrongSum at b.1.0)))))
+  bad_broken (UnknownType at) b = in_line b.0 _ (inr (inr (inr (inr (inl (so_unknown l.chars b.1.1, at_line UnknownType at b.1.0))))))
+  bad_broken (WrongShape at) b = in_line b.0 _ (inr (inr (inr (inr (inr (inl (so_shapes l.chars b.1.1, at_line WrongShape at b.1.0)))))))
+  bad_broken (WrongUpper at) b = in_data b.0 _ b.1.1.0 (inl (not_from_false (eqb (seen_after earlier).upper 0x2000) (ne_eqb (seen_after earlier).upper 0x2000 (λ e. b.1.1.1 (fold upper_next 0 earlier) (says_so 4 upper_on earlier) (sym upper_is ∙ e))), at_line WrongUpper at b.1.0))
+  bad_broken (Backward at) b = in_data b.0 _ b.1.1.0 (inr (inl (lt-ltb (address_on l.chars) (seen_after earlier).top (subst (λ n. address_on l.chars < n) (sym top_is) (b.1.1.1 (fold end_next 0 earlier) (says_so 0 end_on earlier))), at_line Backward at b.1.0)))
+  bad_broken (PastTop at) b = in_data b.0 _ b.1.1.0 (inr (inr (inl (lt-ltb 65536 (address_on l.chars + count_on l.chars) b.1.1.1, at_line PastTop at b.1.0))))
+  bad_broken (AfterEnd at) b =
+      ⊎_elim (λ e. subst (λ rs. Broken rs (AfterEnd at)) (sym (ended_rules e)) (inl (refl, at_line AfterEnd at b.0))) (λ e. absurd (b.1 (ends_none earlier (sym ended_is ∙ e)))) (cases_Bool (seen_after earlier).ended)
   bad_broken TooLong b = absurd b
-  bad_broken (NoEnd ln p) b = absurd b
-  bad_broken (NothingNamed ln p) b = absurd b
+  bad_broken (NoEnd at) b = absurd b
+  bad_broken (NothingNamed at) b = absurd b
   bad_broken RowLength b = absurd b
 
   six : Ascends (line_rules l.number l.place l.chars ++ [])

@@ -1,28 +1,25 @@
 -- Each test of a line, and what it means. Assumes nothing.
-use Rattle.std.proofs.Common.{◌≡◌, ℕ, zero, suc, ◌+◌, ◌-◌, ◌*◌, ◌<◌, ◌≤◌, Bool, true, false, cond, not, ◌&&◌, ◌||◌, eqb, ltb, leb, List, [], ◌∷◌, length, get_or, drop, is_some, Some, None, sym, refl, ap, ◌∙◌, inl, inr, ⊎_elim, arith}
+use Rattle.std.proofs.Common.{◌≡◌, ℕ, ◌+◌, ◌-◌, ◌*◌, ◌<◌, ◌≤◌, Bool, true, false, cond, not, ◌&&◌, ◌||◌, eqb, ltb, List, [], ◌∷◌, length, get_or, drop, is_some, Some, None, sym, refl, ap, ◌∙◌, inl, inr, ⊎_elim, arith}
 use Rattle.std.proofs.lemmas.List.{get_or-drop, length-drop}
-use Rattle.std.proofs.lemmas.Bool.{true≢false, false≢true, not-true, not_from_false, eqb-true, eqb-false, eq-eqb, ne_eqb, lt-ltb, ltb-true, le-leb, leb-true, and_parts, and_from, or_cases, or_parts, or_left, or_right, or_from, cases_lt, cases_Bool}
+use Rattle.std.proofs.lemmas.Bool.{true≢false, false≢true, not-true, not_from_false, eqb-true, eqb-false, eq-eqb, ne_eqb, lt-ltb, ltb-true, and_parts, and_from, or_cases, or_parts, or_left, or_right, or_from, cases_lt, cases_Bool}
+use Rattle.std.proofs.lemmas.List.Sums.{prefix_len_is, prefix_len_passes, prefix_len_stops}
 use Rattle.std.specs.List.{prefix_len}
 use Rattle.checksum.specs.Sums.{sum256}
-use Rattle.hexline.specs.Digits.{within, is_digit, pair_value}
+use Rattle.checksum.specs.Ranges.{within}
+use Rattle.checksum.proofs.Ranges.{within_from, within_parts}
+use Rattle.hexline.specs.Digits.{is_digit, pair_value}
 use Rattle.hexline.specs.Records.{bytes_on, count_on, address_on, type_on, stray_on, lacks_colon, has_stray, lacks_digits, sums_wrong, known_type, fixed_count, misshapen}
 use Rattle.hexline.proofs.Pairs.{get_or_pairs}
 use Rattle.refusals.specs.Bad.{Digit, NotColonFirst, StrayAt, DigitsMissing, SumOff, TypeUnknown, ShapeOff, Misshapen}
 
 -- a character is a digit, or it is not
-within_so : (a b c : ℕ) → within a b c ≡ true → (a ≤ c) × (c ≤ b)
-within_so a b c e = let p = and_parts (leb a c) (leb c b) e in (leb-true a c p.0, leb-true c b p.1)
-
-within_is : (a b c : ℕ) → a ≤ c → c ≤ b → within a b c ≡ true
-within_is a b c low high = and_from (leb a c) (leb c b) (le-leb a c low) (le-leb c b high)
-
 pub digit_so : (c : ℕ) → is_digit c ≡ true → Digit c
 digit_so c =
     elim (within 48 57 c) as (λ a. within 48 57 c ≡ a → is_some (cond a (Some (c - 48)) (cond (within 65 70 c) (Some (c - 55)) (cond (within 97 102 c) (Some (c - 87)) None))) ≡ true → Digit c) [
-      | true ↦ (λ e _. inl (within_so 48 57 c e))
+      | true ↦ (λ e _. inl (within_parts 48 57 c e))
       | false ↦ (λ _. elim (within 65 70 c) as (λ a. within 65 70 c ≡ a → is_some (cond a (Some (c - 55)) (cond (within 97 102 c) (Some (c - 87)) None)) ≡ true → Digit c) [
-        | true ↦ (λ e _. inr (inl (within_so 65 70 c e)))
-        | false ↦ (λ _. elim (within 97 102 c) as (λ a. within 97 102 c ≡ a → is_some (cond a (Some (c - 87)) None) ≡ true → Digit c) [ true ↦ (λ e _. inr (inr (within_so 97 102 c e))) | false ↦ (λ _ k. absurd (false≢true k)) ] refl)
+        | true ↦ (λ e _. inr (inl (within_parts 65 70 c e)))
+        | false ↦ (λ _. elim (within 97 102 c) as (λ a. within 97 102 c ≡ a → is_some (cond a (Some (c - 87)) None) ≡ true → Digit c) [ true ↦ (λ e _. inr (inr (within_parts 97 102 c e))) | false ↦ (λ _ k. absurd (false≢true k)) ] refl)
       ] refl)
     ] refl
 
@@ -31,9 +28,9 @@ some_cond true x o e = refl
 some_cond false x o e = e
 
 pub digit_is : (c : ℕ) → Digit c → is_digit c ≡ true
-digit_is c (inl h) = rw (within_is 48 57 c h.0 h.1)
-digit_is c (inr (inl h)) = some_cond (within 48 57 c) (c - 48) _ (rw (within_is 65 70 c h.0 h.1))
-digit_is c (inr (inr h)) = some_cond (within 48 57 c) (c - 48) _ (some_cond (within 65 70 c) (c - 55) _ (rw (within_is 97 102 c h.0 h.1)))
+digit_is c (inl h) = rw (within_from 48 57 c h.0 h.1)
+digit_is c (inr (inl h)) = some_cond (within 48 57 c) (c - 48) _ (rw (within_from 65 70 c h.0 h.1))
+digit_is c (inr (inr h)) = some_cond (within 48 57 c) (c - 48) _ (some_cond (within 65 70 c) (c - 55) _ (rw (within_from 97 102 c h.0 h.1)))
 
 not_digit : (c : ℕ) → (Digit c → ⊥) → is_digit c ≡ false
 not_digit c none = ⊎_elim (λ t. absurd (none (digit_so c t))) (λ f. f) (cases_Bool (is_digit c))
@@ -46,34 +43,7 @@ pub off_colon : (chars : List ℕ) → NotColonFirst chars → lacks_colon chars
 off_colon [] not_first = refl
 off_colon (c ∷ cs) not_first = not_from_false (eqb c 58) (ne_eqb c 58 (λ e. not_first cs (ap (λ x. x ∷ cs) e)))
 
--- 12: how far a list goes on passing
-passes : (p : ℕ → Bool) (x : ℕ) (xs : List ℕ) (k : ℕ) → p x ≡ true → k < 1 + prefix_len p xs → ((j : ℕ) → j < prefix_len p xs → p (get_or xs j 0) ≡ true) → p (get_or (x ∷ xs) k 0) ≡ true
-passes p x xs zero e m rest = e
-passes p x xs (suc j) e m rest = rest j (omega arith)
-
-lead_passes : (p : ℕ → Bool) (xs : List ℕ) (k : ℕ) → k < prefix_len p xs → p (get_or xs k 0) ≡ true
-lead_passes p [] k h = absurd (omega arith)
-lead_passes p (x ∷ xs) k h =
-    elim (p x) as (λ b. p x ≡ b → k < cond b (1 + prefix_len p xs) 0 → p (get_or (x ∷ xs) k 0) ≡ true) [
-      | true ↦ (λ e m. passes p x xs k e m (λ j n. lead_passes p xs j n))
-      | false ↦ (λ _ m. absurd (omega arith))
-    ] refl h
-
-lead_stops : (p : ℕ → Bool) (xs : List ℕ) → prefix_len p xs < length xs → p (get_or xs (prefix_len p xs) 0) ≡ false
-lead_stops p [] h = absurd (omega arith)
-lead_stops p (x ∷ xs) h =
-    elim (p x) as (λ b. p x ≡ b → cond b (1 + prefix_len p xs) 0 < length (x ∷ xs) → p (get_or (x ∷ xs) (cond b (1 + prefix_len p xs) 0) 0) ≡ false) [
-      | true ↦ (λ e m. let one : 1 + prefix_len p xs ≡ suc (prefix_len p xs) = omega arith in rw one (lead_stops p xs (omega arith)))
-      | false ↦ (λ e m. e)
-    ] refl h
-
-lead_at : (p : ℕ → Bool) (xs : List ℕ) (k : ℕ) → k < length xs → p (get_or xs k 0) ≡ false → ((j : ℕ) → j < k → p (get_or xs j 0) ≡ true) → prefix_len p xs ≡ k
-lead_at p [] k h stop pass = absurd (omega arith)
-lead_at p (x ∷ xs) zero h stop pass = rw stop
-lead_at p (x ∷ xs) (suc k) h stop pass =
-    let rest = lead_at p xs k (omega arith) stop (λ j m. pass (suc j) (omega arith)) in
-    rw (pass 0 (omega arith)) (omega arith)
-
+-- 12
 module _ (chars : List ℕ) where
   shifted : (j : ℕ) → get_or (drop 1 chars) j 0 ≡ get_or chars (1 + j) 0
   shifted j = get_or-drop 1 chars j 0
@@ -83,12 +53,12 @@ module _ (chars : List ℕ) where
       let n = prefix_len is_digit (drop 1 chars) in
       let lt : 1 + n < length chars = ltb-true (stray_on chars) (length chars) e in
       let long = length-drop 1 chars in
-      let stop : is_digit (get_or chars (1 + n) 0) ≡ false = ap is_digit (sym (shifted n)) ∙ lead_stops is_digit (drop 1 chars) (omega arith) in
+      let stop : is_digit (get_or chars (1 + n) 0) ≡ false = ap is_digit (sym (shifted n)) ∙ prefix_len_stops is_digit (drop 1 chars) 0 (omega arith) in
       record {
         past_colon = omega arith;
         within = lt;
         stray = λ d. true≢false (sym (digit_is (get_or chars (1 + n) 0) d) ∙ stop);
-        first = λ j low high. (let back : 1 + (j - 1) ≡ j = omega arith in digit_so (get_or chars j 0) (ap (λ i. is_digit (get_or chars i 0)) (sym back) ∙ ap is_digit (sym (shifted (j - 1))) ∙ lead_passes is_digit (drop 1 chars) (j - 1) (omega arith)));
+        first = λ j low high. (let back : 1 + (j - 1) ≡ j = omega arith in digit_so (get_or chars j 0) (ap (λ i. is_digit (get_or chars i 0)) (sym back) ∙ ap is_digit (sym (shifted (j - 1))) ∙ prefix_len_passes is_digit (drop 1 chars) (j - 1) 0 (omega arith)));
       }
 
   pub stray_is : (k : ℕ) → StrayAt chars k → stray_on chars ≡ k
@@ -96,7 +66,7 @@ module _ (chars : List ℕ) where
       let back : 1 + (k - 1) ≡ k = omega arith in
       let long = length-drop 1 chars in
       let stop : is_digit (get_or (drop 1 chars) (k - 1) 0) ≡ false = ap is_digit (shifted (k - 1)) ∙ ap (λ i. is_digit (get_or chars i 0)) back ∙ not_digit (get_or chars k 0) s.stray in
-      let at = lead_at is_digit (drop 1 chars) (k - 1) (omega arith) stop (λ j m. ap is_digit (shifted j) ∙ digit_is (get_or chars (1 + j) 0) (s.first (1 + j) (omega arith) (omega arith))) in
+      let at = prefix_len_is is_digit (drop 1 chars) (k - 1) 0 (omega arith) (λ j m. ap is_digit (shifted j) ∙ digit_is (get_or chars (1 + j) 0) (s.first (1 + j) (omega arith) (omega arith))) (λ _. stop) in
       omega arith
 
   pub is_stray : (k : ℕ) → StrayAt chars k → has_stray chars ≡ true

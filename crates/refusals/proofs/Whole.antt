@@ -7,7 +7,7 @@ use Rattle.std.specs.List.{AllByRecursion}
 use Rattle.checksum.specs.Outcomes.{and_then}
 use Rattle.hexline.specs.declared.fault.TextFault.{TextFault}
 use Rattle.hexline.specs.declared.fault.TextFault.TheVariants.{TooLong, WrongLength, NoEnd, AfterEnd, NothingNamed}
-use Rattle.hexline.specs.Faults.{decided}
+use Rattle.hexline.specs.Faults.{decided, spot}
 use Rattle.hexline.specs.Records.{type_on, lacks_digits}
 use Rattle.hexline.proofs.Sorted.{data_length}
 use Rattle.ihex.specs.declared.reads.Seen.{Seen}
@@ -25,23 +25,23 @@ abbrev Answer : Type 0
 Answer = Result (Unit {0}) TextFault
 
 ok_not_err : (f : TextFault) → ◌≡◌ {A = Answer} (Ok tt) (Err f) → ⊥
-ok_not_err f e = let z : ◌≡◌ {A = ℕ} 0 1 = cc in omega arith
+ok_not_err f e = cc
 
 err_same : (f g : TextFault) → ◌≡◌ {A = Answer} (Err f) (Err g) → f ≡ g
 err_same f g e = cc
 
 some_not_none : (b : ℕ) → ◌≡◌ {A = Option ℕ} (Some b) None → ⊥
-some_not_none b e = let z : ◌≡◌ {A = ℕ} 0 1 = cc in omega arith
+some_not_none b e = cc
 
 -- the last line's number is how many there are
-count_from : (s : Seen) (n p : ℕ) (ss : List Stretch) → s.line + 1 ≡ n → (fold seen_next s (placed n p ss)).line ≡ s.line + length (placed n p ss)
+count_from : (s : Seen) (n p : ℕ) (ss : List Stretch) → s.at.line + 1 ≡ n → (fold seen_next s (placed n p ss)).at.line ≡ s.at.line + length (placed n p ss)
 unfolding placed
 count_from s n p [] next = omega arith
 count_from s n p (t ∷ ss) next =
     let rest = count_from (seen_next s (record { number = n; place = p; chars = trimmed t })) (n + 1) (p + size_of t) ss refl in
     rest ∙ omega arith
 
-pub line_count : (text : List ℕ) → (seen_after (lines_of text)).line ≡ length (lines_of text)
+pub line_count : (text : List ℕ) → (seen_after (lines_of text)).at.line ≡ length (lines_of text)
 line_count text = count_from nothing_seen 1 0 (stretches text) refl ∙ omega arith
 
 -- the last of some lines
@@ -57,7 +57,7 @@ pub record Ended (ls : List TextLine) : Type 0 where
 
 pub nothing_after : (earlier : List TextLine) (l : TextLine) (ls : List TextLine) → type_on l.chars ≡ 1 → Clean (earlier ++ (l ∷ [])) ls → ls ≡ []
 nothing_after earlier l [] is clean = refl
-nothing_after earlier l (m ∷ ls) is clean = absurd (clean.0 (AfterEnd m.number m.place) ((refl, refl), λ none. all_last (λ k. type_on k.chars ≡ 1 → ⊥) earlier l none is))
+nothing_after earlier l (m ∷ ls) is clean = absurd (clean.0 (AfterEnd (spot m.number m.place)) ((refl, refl), λ none. all_last (λ k. type_on k.chars ≡ 1 → ⊥) earlier l none is))
 
 -- an end line of clean lines is the last of them
 end_last : (earlier ls : List TextLine) → NoneOf 1 earlier → Clean earlier ls → fold ends_next false ls ≡ true → Ended ls
@@ -82,7 +82,7 @@ clean_counted earlier (l ∷ ls) clean none e = (
 )
   where
     counted : Counted l
-    counted = ⊎_elim (λ t. absurd (clean.0 (WrongLength l.number l.place) (none, ((refl, refl), missing_so l.chars t)))) (λ f. data_length 0 0 l.chars f) (cases_Bool (lacks_digits l.chars))
+    counted = ⊎_elim (λ t. absurd (clean.0 (WrongLength (spot l.number l.place)) (none, ((refl, refl), missing_so l.chars t)))) (λ f. data_length 0 0 l.chars f) (cases_Bool (lacks_digits l.chars))
 
 module _ (text : List ℕ) where
   abbrev seen : Seen
@@ -97,7 +97,7 @@ module _ (text : List ℕ) where
   answer_short short = ap (λ b. cond b (Err TooLong) (and_then (lines_kept [] (lines_of text)) (λ s. decided (whole_rules (length text) s) tt))) (le-ltb longest_text (length text) short)
 
   -- past clean lines, the whole text's rules decide
-  answer_clean : length text ≤ longest_text → Clean [] (lines_of text) → text_of text ≡ cond (not seen.ended) (Err (NoEnd (seen.line + 1) (length text))) (cond (not seen.names) (Err (NothingNamed seen.line seen.place)) (Ok tt))
+  answer_clean : length text ≤ longest_text → Clean [] (lines_of text) → text_of text ≡ cond (not seen.ended) (Err (NoEnd (spot (seen.at.line + 1) (length text)))) (cond (not seen.names) (Err (NothingNamed seen.at)) (Ok tt))
   answer_clean short clean = answer_short short ∙ ap (λ r. and_then r (λ s. decided (whole_rules (length text) s) tt)) (clean_kept [] (lines_of text) clean)
 
   ended_is : seen.ended ≡ fold ends_next false (lines_of text)
@@ -110,8 +110,8 @@ module _ (text : List ℕ) where
   last_seen : (before : List TextLine) (end : TextLine) → lines_of text ≡ before ++ (end ∷ []) → seen ≡ seen_next (seen_after before) end
   last_seen before end place = ap seen_after place ∙ fold_push seen_next nothing_seen before end
 
-  spot_is : (before : List TextLine) (end : TextLine) → lines_of text ≡ before ++ (end ∷ []) → NothingNamed seen.line seen.place ≡ NothingNamed end.number end.place
-  spot_is before end place = ap (λ s. NothingNamed s.line s.place) (last_seen before end place)
+  spot_is : (before : List TextLine) (end : TextLine) → lines_of text ≡ before ++ (end ∷ []) → NothingNamed seen.at ≡ NothingNamed (spot end.number end.place)
+  spot_is before end place = ap (λ s. NothingNamed s.at) (last_seen before end place)
 
   nothing_named : seen.names ≡ false → (a : ℕ) → named text a ≡ None
   unfolding data_lines
@@ -127,31 +127,31 @@ module _ (text : List ℕ) where
   whole_accepted : length text ≤ longest_text → Clean [] (lines_of text) → text_of text ≡ Ok tt → Accepted text
   whole_accepted short clean e =
       let told = sym (answer_clean short clean) ∙ e in
-      elim seen.ended as (λ b. seen.ended ≡ b → cond (not b) (Err (NoEnd (seen.line + 1) (length text))) (cond (not seen.names) (Err (NothingNamed seen.line seen.place)) (Ok tt)) ≡ Ok tt → Accepted text) [
-        | true ↦ (λ ended. elim seen.names as (λ b. seen.names ≡ b → cond (not b) (Err (NothingNamed seen.line seen.place)) (Ok tt) ≡ Ok tt → Accepted text) [
+      elim seen.ended as (λ b. seen.ended ≡ b → cond (not b) (Err (NoEnd (spot (seen.at.line + 1) (length text)))) (cond (not seen.names) (Err (NothingNamed seen.at)) (Ok tt)) ≡ Ok tt → Accepted text) [
+        | true ↦ (λ ended. elim seen.names as (λ b. seen.names ≡ b → cond (not b) (Err (NothingNamed seen.at)) (Ok tt) ≡ Ok tt → Accepted text) [
           | true ↦ (λ some _.
               let last = end_last [] (lines_of text) tt clean (sym ended_is ∙ ended) in
               let byte = something_named clean ended some in
               record { short = short; clean = clean; before = last.before; end = last.end; place = last.place; type = last.type; address = byte.0; byte = byte.1; names = byte.2 })
-          | false ↦ (λ _ k. absurd (ok_not_err (NothingNamed seen.line seen.place) (sym k)))
+          | false ↦ (λ _ k. absurd (ok_not_err (NothingNamed seen.at) (sym k)))
         ] refl)
-        | false ↦ (λ _ k. absurd (ok_not_err (NoEnd (seen.line + 1) (length text)) (sym k)))
+        | false ↦ (λ _ k. absurd (ok_not_err (NoEnd (spot (seen.at.line + 1) (length text))) (sym k)))
       ] refl told
 
   whole_refused : (f : TextFault) → length text ≤ longest_text → Clean [] (lines_of text) → text_of text ≡ Err f → Refused text f
   whole_refused f short clean e =
       let told = sym (answer_clean short clean) ∙ e in
-      elim seen.ended as (λ b. seen.ended ≡ b → cond (not b) (Err (NoEnd (seen.line + 1) (length text))) (cond (not seen.names) (Err (NothingNamed seen.line seen.place)) (Ok tt)) ≡ Err f → Refused text f) [
-        | true ↦ (λ ended. elim seen.names as (λ b. seen.names ≡ b → cond (not b) (Err (NothingNamed seen.line seen.place)) (Ok tt) ≡ Err f → Refused text f) [
+      elim seen.ended as (λ b. seen.ended ≡ b → cond (not b) (Err (NoEnd (spot (seen.at.line + 1) (length text)))) (cond (not seen.names) (Err (NothingNamed seen.at)) (Ok tt)) ≡ Err f → Refused text f) [
+        | true ↦ (λ ended. elim seen.names as (λ b. seen.names ≡ b → cond (not b) (Err (NothingNamed seen.at)) (Ok tt) ≡ Err f → Refused text f) [
           | true ↦ (λ _ k. absurd (ok_not_err f k))
           | false ↦ (λ none k.
               let last = end_last [] (lines_of text) tt clean (sym ended_is ∙ ended) in
-              let is = err_same (NothingNamed seen.line seen.place) f k in
+              let is = err_same (NothingNamed seen.at) f k in
               no_byte short (record { before = last.before; end = last.end; place = last.place; type = last.type; clean = clean; none = nothing_named none; is = sym is ∙ spot_is last.before last.end last.place }))
         ] refl)
         | false ↦ (λ none k.
-            let is = err_same (NoEnd (seen.line + 1) (length text)) f k in
-            end_missing short (record { clean = clean; none = ends_none (lines_of text) (sym ended_is ∙ none); is = sym is ∙ ap (λ n. NoEnd (n + 1) (length text)) (line_count text) }))
+            let is = err_same (NoEnd (spot (seen.at.line + 1) (length text))) f k in
+            end_missing short (record { clean = clean; none = ends_none (lines_of text) (sym ended_is ∙ none); is = sym is ∙ ap (λ n. NoEnd (spot (n + 1) (length text))) (line_count text) }))
       ] refl told
 
   pub refused_so : (f : TextFault) → text_of text ≡ Err f → Refused text f
@@ -170,13 +170,13 @@ module _ (text : List ℕ) where
   refuses f (bad_line short first) = answer_short short ∙ ap (λ r. and_then r (λ s. decided (whole_rules (length text) s) tt)) (first_stops (lines_of text) f first)
   refuses f (end_missing short m) =
       answer_clean short m.clean
-      ∙ ap (λ b. cond (not b) (Err (NoEnd (seen.line + 1) (length text))) (cond (not seen.names) (Err (NothingNamed seen.line seen.place)) (Ok tt))) (ended_is ∙ none_ends (lines_of text) m.none)
-      ∙ ap (λ n. Err (NoEnd (n + 1) (length text))) (line_count text)
+      ∙ ap (λ b. cond (not b) (Err (NoEnd (spot (seen.at.line + 1) (length text)))) (cond (not seen.names) (Err (NothingNamed seen.at)) (Ok tt))) (ended_is ∙ none_ends (lines_of text) m.none)
+      ∙ ap (λ n. Err (NoEnd (spot (n + 1) (length text)))) (line_count text)
       ∙ ap Err (sym m.is)
   refuses f (no_byte short n) =
       answer_clean short n.clean
-      ∙ ap (λ b. cond (not b) (Err (NoEnd (seen.line + 1) (length text))) (cond (not seen.names) (Err (NothingNamed seen.line seen.place)) (Ok tt))) (ended_last n.before n.end n.place n.type)
-      ∙ ap (λ b. cond (not b) (Err (NothingNamed seen.line seen.place)) (Ok tt)) (⊎_elim (λ t. let s = something_named n.clean (ended_last n.before n.end n.place n.type) t in absurd (some_not_none s.1 (sym s.2 ∙ n.none s.0))) (λ e. e) (cases_Bool seen.names))
+      ∙ ap (λ b. cond (not b) (Err (NoEnd (spot (seen.at.line + 1) (length text)))) (cond (not seen.names) (Err (NothingNamed seen.at)) (Ok tt))) (ended_last n.before n.end n.place n.type)
+      ∙ ap (λ b. cond (not b) (Err (NothingNamed seen.at)) (Ok tt)) (⊎_elim (λ t. let s = something_named n.clean (ended_last n.before n.end n.place n.type) t in absurd (some_not_none s.1 (sym s.2 ∙ n.none s.0))) (λ e. e) (cases_Bool seen.names))
       ∙ ap Err (spot_is n.before n.end n.place ∙ sym n.is)
 
   pub accepted_so : text_of text ≡ Ok tt → Accepted text
@@ -193,8 +193,8 @@ module _ (text : List ℕ) where
   pub accepts : Accepted text → text_of text ≡ Ok tt
   accepts a =
       answer_clean a.short a.clean
-      ∙ ap (λ b. cond (not b) (Err (NoEnd (seen.line + 1) (length text))) (cond (not seen.names) (Err (NothingNamed seen.line seen.place)) (Ok tt))) (ended_last a.before a.end a.place a.type)
-      ∙ ap (λ b. cond (not b) (Err (NothingNamed seen.line seen.place)) (Ok tt)) (⊎_elim (λ t. t) (λ f. absurd (some_not_none a.byte (sym a.names ∙ nothing_named f a.address))) (cases_Bool seen.names))
+      ∙ ap (λ b. cond (not b) (Err (NoEnd (spot (seen.at.line + 1) (length text)))) (cond (not seen.names) (Err (NothingNamed seen.at)) (Ok tt))) (ended_last a.before a.end a.place a.type)
+      ∙ ap (λ b. cond (not b) (Err (NothingNamed seen.at)) (Ok tt)) (⊎_elim (λ t. t) (λ f. absurd (some_not_none a.byte (sym a.names ∙ nothing_named f a.address))) (cases_Bool seen.names))
 
   -- an accepted text's lines have the data that their counts say
   pub accepted_counted : Accepted text → AllByRecursion Counted (lines_of text)

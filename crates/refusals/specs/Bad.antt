@@ -4,6 +4,7 @@ use Rattle.std.specs.List.{AllByRecursion}
 use Rattle.checksum.specs.Sums.{sum256}
 use Rattle.hexline.specs.declared.fault.TextFault.{TextFault}
 use Rattle.hexline.specs.declared.fault.TextFault.TheVariants.{TooLong, NoColon, NoDigit, WrongLength, WrongSum, UnknownType, WrongShape, WrongUpper, Backward, PastTop, NoEnd, AfterEnd, NothingNamed, RowLength}
+use Rattle.hexline.specs.declared.spot.Spot.{Spot}
 use Rattle.hexline.specs.Digits.{pair_value}
 use Rattle.hexline.specs.Records.{bytes_on, count_on, address_on, type_on, upper_on}
 use Rattle.ihex.specs.Texts.{TextLine}
@@ -78,8 +79,8 @@ abbrev pub EndsHigh : List ℕ → Type 0
 EndsHigh chars = (type_on chars ≡ 0) × (65536 < end_on chars)
 
 -- a fault at a line's first byte
-abbrev pub At : ℕ → ℕ → TextLine → Type 0
-At ln p l = (ln ≡ l.number) × (p ≡ l.place)
+abbrev pub At : Spot → TextLine → Type 0
+At at l = (at.line ≡ l.number) × (at.place ≡ l.place)
 
 -- a line that stands after no end line, which is bad in this way
 abbrev pub Unended : List TextLine → Type 0 → Type 0
@@ -87,17 +88,17 @@ Unended earlier bad = NoneOf 1 earlier × bad
 
 -- the line is bad by this refusal, with this line and place, after these lines
 abbrev pub Bad : List TextLine → TextLine → TextFault → Type 0
-Bad earlier l (NoColon ln p) = Unended earlier (At ln p l × NotColonFirst l.chars)
-Bad earlier l (NoDigit ln p) = Unended earlier ((ln ≡ l.number) × ((k : ℕ) × (p ≡ l.place + k) × StrayAt l.chars k))
-Bad earlier l (WrongLength ln p) = Unended earlier (At ln p l × DigitsMissing l.chars)
-Bad earlier l (WrongSum ln p) = Unended earlier (At ln p l × SumOff l.chars)
-Bad earlier l (UnknownType ln p) = Unended earlier (At ln p l × TypeUnknown l.chars)
-Bad earlier l (WrongShape ln p) = Unended earlier (At ln p l × Misshapen l.chars)
-Bad earlier l (WrongUpper ln p) = Unended earlier (At ln p l × UpperOff earlier l.chars)
-Bad earlier l (Backward ln p) = Unended earlier (At ln p l × StartsBack earlier l.chars)
-Bad earlier l (PastTop ln p) = Unended earlier (At ln p l × EndsHigh l.chars)
-Bad earlier l (AfterEnd ln p) = At ln p l × (NoneOf 1 earlier → ⊥)
+Bad earlier l (NoColon at) = Unended earlier (At at l × NotColonFirst l.chars)
+Bad earlier l (NoDigit at) = Unended earlier ((at.line ≡ l.number) × ((k : ℕ) × (at.place ≡ l.place + k) × StrayAt l.chars k))
+Bad earlier l (WrongLength at) = Unended earlier (At at l × DigitsMissing l.chars)
+Bad earlier l (WrongSum at) = Unended earlier (At at l × SumOff l.chars)
+Bad earlier l (UnknownType at) = Unended earlier (At at l × TypeUnknown l.chars)
+Bad earlier l (WrongShape at) = Unended earlier (At at l × Misshapen l.chars)
+Bad earlier l (WrongUpper at) = Unended earlier (At at l × UpperOff earlier l.chars)
+Bad earlier l (Backward at) = Unended earlier (At at l × StartsBack earlier l.chars)
+Bad earlier l (PastTop at) = Unended earlier (At at l × EndsHigh l.chars)
+Bad earlier l (AfterEnd at) = At at l × (NoneOf 1 earlier → ⊥)
 Bad earlier l TooLong = ⊥
-Bad earlier l (NoEnd ln p) = ⊥
-Bad earlier l (NothingNamed ln p) = ⊥
+Bad earlier l (NoEnd at) = ⊥
+Bad earlier l (NothingNamed at) = ⊥
 Bad earlier l RowLength = ⊥

@@ -2,7 +2,7 @@
 use Rattle.std.specs.Prelude.{◌≡◌, ℕ, ◌+◌, ◌<◌, ◌≤◌, List, [], ◌∷◌, ◌++◌, length, Some, None, Ok, Err}
 use Rattle.hexline.specs.declared.fault.TextFault.{TextFault}
 use Rattle.hexline.specs.declared.fault.TextFault.TheVariants.{TooLong, NoEnd, NothingNamed}
-use Rattle.hexline.specs.Faults.{number_of}
+use Rattle.hexline.specs.Faults.{spot, number_of}
 use Rattle.hexline.specs.Records.{type_on}
 use Rattle.ihex.specs.Texts.{TextLine, lines_of}
 use Rattle.ihex.specs.Reads.{longest_text, text_of}
@@ -28,7 +28,7 @@ pub record FirstBad (ls : List TextLine) (f : TextFault) : Type 0 where
 pub record EndMissing (text : List ℕ) (f : TextFault) : Type 0 where
   pub clean : Clean [] (lines_of text)
   pub none : NoneOf 1 (lines_of text)
-  pub is : f ≡ NoEnd (length (lines_of text) + 1) (length text)
+  pub is : f ≡ NoEnd (spot (length (lines_of text) + 1) (length text))
 
 -- 22: no line is bad, the last one is the end line, and no byte is named; the end line's number and place
 pub record NoByte (text : List ℕ) (f : TextFault) : Type 0 where
@@ -38,7 +38,7 @@ pub record NoByte (text : List ℕ) (f : TextFault) : Type 0 where
   pub type : type_on end.chars ≡ 1
   pub clean : Clean [] (lines_of text)
   pub none : (a : ℕ) → named text a ≡ None
-  pub is : f ≡ NothingNamed end.number end.place
+  pub is : f ≡ NothingNamed (spot end.number end.place)
 
 -- why a text is refused
 pub data Refused (text : List ℕ) (f : TextFault) : Type 0 where

@@ -5,14 +5,15 @@ use Rattle.std.specs.List.{flat_map}
 use Rattle.checksum.specs.Outcomes.{and_then}
 use Rattle.hexline.specs.declared.fault.TextFault.{TextFault}
 use Rattle.hexline.specs.declared.fault.TextFault.TheVariants.{TooLong, AfterEnd}
-use Rattle.hexline.specs.Faults.{Rule, rule, decided}
+use Rattle.hexline.specs.Faults.{Rule, rule, decided, spot}
 use Rattle.hexline.specs.Records.{count_on, address_on, type_on, data_on, data_digits}
 use Rattle.hexline.specs.Lines.{line_rules}
 use Rattle.ihex.specs.declared.reads.Seen.{Seen}
 use Rattle.ihex.specs.Texts.{TextLine, stretches, trimmed, lines_of}
 use Rattle.ihex.specs.Reads.{longest_text, is_data, seen_next, nothing_seen, data_rules, order_rules, rules_beside, lines_kept, whole_rules, text_of, accepted}
 use Rattle.ihex.specs.Named.{DataIs, data_in, data_lines, byte_at, held, named_next, named}
-use Rattle.ihex.proofs.Steps.{line_at, kept_from, kept_is, decided_then}
+use Rattle.ihex.proofs.Cuts.{line_at}
+use Rattle.ihex.proofs.Steps.{kept_from, kept_is, decided_then}
 use Rattle.rewriting.specs.Laws.{Keeps}
 use Rattle.rewriting.proofs.Cut.{chars_in, placed_chars}
 
@@ -31,7 +32,7 @@ ok_decided (r ∷ rs) x =
 
 -- what lines have said, at no line and no place
 abbrev pub bare : Seen → Seen
-bare s = record { upper = s.upper; top = s.top; names = s.names; ended = s.ended; line = 0; place = 0 }
+bare s = record { upper = s.upper; top = s.top; names = s.names; ended = s.ended; at = spot 0 0 }
 
 -- whether a line with these characters breaks no rule
 abbrev pub fits : Seen → List ℕ → Bool
@@ -40,7 +41,7 @@ fits s cs = all_kept (breaks (rules_beside s (line_at 0 0 cs)))
 fits_bare : (s : Seen) (l : TextLine) → all_kept (breaks (rules_beside s l)) ≡ fits (bare s) l.chars
 unfolding rules_beside
 fits_bare s l =
-    elim s.ended as (λ e. all_kept (breaks (cond e (rule true (AfterEnd l.number l.place) ∷ []) (line_rules l.number l.place l.chars ++ order_rules s.upper s.top l))) ≡ all_kept (breaks (cond e (rule true (AfterEnd 0 0) ∷ []) (line_rules 0 0 l.chars ++ order_rules s.upper s.top (line_at 0 0 l.chars))))) [
+    elim s.ended as (λ e. all_kept (breaks (cond e (rule true (AfterEnd (spot l.number l.place)) ∷ []) (line_rules l.number l.place l.chars ++ order_rules s.upper s.top l))) ≡ all_kept (breaks (cond e (rule true (AfterEnd (spot 0 0)) ∷ []) (line_rules 0 0 l.chars ++ order_rules s.upper s.top (line_at 0 0 l.chars))))) [
       | true ↦ refl
       | false ↦ elim (is_data l) as (λ d. all_kept (breaks (line_rules l.number l.place l.chars ++ cond d (data_rules s.upper s.top (address_on l.chars) (count_on l.chars) l.number l.place) [])) ≡ all_kept (breaks (line_rules 0 0 l.chars ++ cond d (data_rules s.upper s.top (address_on l.chars) (count_on l.chars) 0 0) []))) [ true ↦ refl | false ↦ refl ]
     ]

@@ -1,19 +1,21 @@
 -- The case of digits changes nothing. Assumes nothing.
-use Rattle.std.proofs.Common.{◌≡◌, ℕ, zero, suc, ◌+◌, ◌-◌, ◌*◌, ◌<◌, ◌≤◌, true, false, cond, ◌&&◌, eqb, leb, List, [], ◌∷◌, map, length, get_or, take, drop, None, Ok, Err, fold, Option, Result, sym, refl, ap, ◌∙◌, inl, inr, arith}
+use Rattle.std.proofs.Common.{◌≡◌, ℕ, zero, suc, ◌+◌, ◌-◌, ◌*◌, ◌<◌, ◌≤◌, true, false, cond, ◌&&◌, eqb, List, [], ◌∷◌, map, length, get_or, take, drop, None, Ok, Err, fold, Option, Result, sym, refl, ap, ◌∙◌, inl, inr, arith}
 use Rattle.std.proofs.lemmas.List.{length-map, take-map, drop-map}
-use Rattle.std.proofs.lemmas.Bool.{le-leb, lt-leb, leb-true, and_from, and_parts, and_right, ne_eqb}
+use Rattle.std.proofs.lemmas.Bool.{ne_eqb}
 use Rattle.std.specs.List.{prefix_len}
 use Rattle.checksum.specs.Outcomes.{and_then}
 use Rattle.hexline.specs.declared.fault.TextFault.{TextFault}
-use Rattle.hexline.specs.Digits.{within, digit_of, is_digit, pair_value, pairs}
+use Rattle.checksum.specs.Ranges.{within}
+use Rattle.checksum.proofs.Ranges.{within_from, within_parts, above_none}
+use Rattle.hexline.specs.Digits.{digit_of, is_digit, pair_value, pairs}
 use Rattle.hexline.specs.Faults.{decided}
 use Rattle.hexline.specs.Records.{bytes_on, count_on, data_digits, data_on, stray_on, lacks_colon}
 use Rattle.ihex.specs.declared.reads.Seen.{Seen}
 use Rattle.ihex.specs.Texts.{Stretch, TextLine, on_first, stretches, trimmed, size_of, placed, lines_of}
 use Rattle.ihex.specs.Reads.{seen_next, nothing_seen, rules_beside, lines_kept, text_of}
 use Rattle.ihex.specs.Named.{named}
-use Rattle.ihex.proofs.Steps.{line_at, kept_from, kept_is}
-use Rattle.ihex.proofs.Cuts.{stretch}
+use Rattle.ihex.proofs.Steps.{kept_from, kept_is}
+use Rattle.ihex.proofs.Cuts.{stretch, line_at}
 use Rattle.rewriting.specs.Cases.{SameDigit, SameButCase}
 use Rattle.rewriting.specs.Laws.{CaseFree}
 use Rattle.rewriting.proofs.Bare.{text_chars, bare_next, named_is}
@@ -22,19 +24,13 @@ use Rattle.rewriting.proofs.Bare.{text_chars, bare_next, named_is}
 unfoldable low : ℕ → ℕ
 low c = cond (within 65 70 c) (c + 32) c
 
-inside : (a b c : ℕ) → a ≤ c → c ≤ b → within a b c ≡ true
-inside a b c h k = and_from (leb a c) (leb c b) (le-leb a c h) (le-leb c b k)
-
-above : (a b c : ℕ) → b < c → within a b c ≡ false
-above a b c h = and_right (leb a c) (leb c b) (lt-leb c b h)
-
 low_letter : (c : ℕ) → 65 ≤ c → c ≤ 70 → low c ≡ c + 32
 unfolding low
-low_letter c h k = rw (inside 65 70 c h k)
+low_letter c h k = rw (within_from 65 70 c h k)
 
 low_above : (c : ℕ) → 70 < c → low c ≡ c
 unfolding low
-low_above c h = rw (above 65 70 c h)
+low_above c h = rw (above_none 65 70 c h)
 
 low_same : (c d : ℕ) → SameDigit c d → low d ≡ low c
 low_same c d (inl e) = ap low (sym e)
@@ -51,14 +47,14 @@ same_low (c ∷ cs) (d ∷ ds) h = rw (low_same c d h.0, same_low cs ds h.1)
 digit_letter : (c : ℕ) → 65 ≤ c → c ≤ 70 → digit_of (c + 32) ≡ digit_of c
 digit_letter c h k =
     let e : c + 32 - 87 ≡ c - 55 = omega arith in
-    rw (above 48 57 (c + 32) (omega arith), above 65 70 (c + 32) (omega arith), inside 97 102 (c + 32) (omega arith) (omega arith), above 48 57 c (omega arith), inside 65 70 c h k, e)
+    rw (above_none 48 57 (c + 32) (omega arith), above_none 65 70 (c + 32) (omega arith), within_from 97 102 (c + 32) (omega arith) (omega arith), above_none 48 57 c (omega arith), within_from 65 70 c h k, e)
 
 -- what holds of a character and of the lower letter holds of either case
 low_by : {X : Type 0} (f : ℕ → X) → ((c : ℕ) → 65 ≤ c → c ≤ 70 → f (c + 32) ≡ f c) → (c : ℕ) → f (low c) ≡ f c
 unfolding low
 low_by f h c =
     elim (within 65 70 c) as (λ b. within 65 70 c ≡ b → f (cond b (c + 32) c) ≡ f c) [
-      | true ↦ (λ e. let p = and_parts (leb 65 c) (leb c 70) e in h c (leb-true 65 c p.0) (leb-true c 70 p.1))
+      | true ↦ (λ e. let p = within_parts 65 70 c e in h c p.0 p.1)
       | false ↦ (λ e. refl)
     ] refl
 

@@ -4,10 +4,10 @@ use Rattle.std.proofs.lemmas.List.{append_assoc, map-append}
 use Rattle.std.proofs.ByRecursion.{All-weaker, All-get_or}
 use Rattle.std.proofs.lemmas.Bool.{false≢true, eqb-true, ltb-false, not-false}
 use Rattle.std.specs.List.{flat_map, prefix_len, AllByRecursion}
-use Rattle.checksum.proofs.Joins.{joined_append}
+use Rattle.std.proofs.lemmas.Grind.{flat_map-append}
 use Rattle.hexline.specs.declared.fault.TextFault.TheVariants.{AfterEnd}
 use Rattle.hexline.specs.Digits.{is_digit}
-use Rattle.hexline.specs.Faults.{rule}
+use Rattle.hexline.specs.Faults.{rule, spot}
 use Rattle.hexline.specs.Records.{count_on, address_on, type_on, data_on, stray_on}
 use Rattle.hexline.specs.Lines.{start_is, line_rules, case_of, line_of}
 use Rattle.hexline.proofs.Decided.{decided_kept}
@@ -16,7 +16,8 @@ use Rattle.ihex.specs.declared.reads.Seen.{Seen}
 use Rattle.ihex.specs.Texts.{trimmed, stretches}
 use Rattle.ihex.specs.Reads.{seen_next, nothing_seen, data_rules, order_rules, rules_beside}
 use Rattle.ihex.specs.Named.{byte_at, held}
-use Rattle.ihex.proofs.Steps.{line_at, or_false}
+use Rattle.ihex.proofs.Cuts.{line_at}
+use Rattle.std.proofs.Math.Bool.{or-false}
 use Rattle.rewriting.specs.Ended.{EndedLine, ended, written, Unended}
 use Rattle.rewriting.specs.Laws.{StartLine, StartFree}
 use Rattle.rewriting.proofs.Cut.{cut_lines, cut_line, some_line}
@@ -60,12 +61,12 @@ module _ (chars : List ℕ) (is : StartLine chars) where
 
   -- it says nothing new
   start_next : (s : Seen) → seen_next (bare s) (line_at 0 0 chars) ≡ bare s
-  start_next s = rw (start_type, or_false s.names, or_false s.ended)
+  start_next s = rw (start_type, or-false s.names, or-false s.ended)
 
   start_fits : (s : Seen) → s.ended ≡ false → fits s chars ≡ true
   unfolding rules_beside
   start_fits s going =
-      ap (λ e. all_kept (breaks (cond e (rule true (AfterEnd 0 0) ∷ []) (line_rules 0 0 chars ++ order_rules s.upper s.top (line_at 0 0 chars))))) going
+      ap (λ e. all_kept (breaks (cond e (rule true (AfterEnd (spot 0 0)) ∷ []) (line_rules 0 0 chars ++ order_rules s.upper s.top (line_at 0 0 chars))))) going
       ∙ ap (λ t. all_kept (breaks (line_rules 0 0 chars ++ cond (eqb t 0) (data_rules s.upper s.top (address_on chars) (count_on chars) 0 0) []))) start_type
       ∙ start_kept
 
@@ -73,7 +74,7 @@ module _ (chars : List ℕ) (is : StartLine chars) where
 fits_going : (s : Seen) (cs : List ℕ) → fits s cs ≡ true → s.ended ≡ false
 unfolding rules_beside
 fits_going s cs h =
-    elim s.ended as (λ e. all_kept (breaks (cond e (rule true (AfterEnd 0 0) ∷ []) (line_rules 0 0 cs ++ order_rules s.upper s.top (line_at 0 0 cs)))) ≡ true → e ≡ false) [ true ↦ (λ k. absurd (false≢true k)) | false ↦ (λ k. refl) ] h
+    elim s.ended as (λ e. all_kept (breaks (cond e (rule true (AfterEnd (spot 0 0)) ∷ []) (line_rules 0 0 cs ++ order_rules s.upper s.top (line_at 0 0 cs)))) ≡ true → e ≡ false) [ true ↦ (λ k. absurd (false≢true k)) | false ↦ (λ k. refl) ] h
 
 whole_fits : (b : Bool) (o : Option Seen) → whole (cond b o None) ≡ true → b ≡ true
 whole_fits true o h = refl
@@ -97,7 +98,7 @@ module _ (chars : List ℕ) (is : StartLine chars) (y : List ℕ) (ys : List (Li
   start_unnamed a earlier (x ∷ xs) = start_unnamed a (bare_next a earlier x) xs
 
 written_append : (ls ms : List EndedLine) (rest : List ℕ) → written (ls ++ ms) rest ≡ written ls (written ms rest)
-written_append ls ms rest = ap (λ t. t ++ rest) (joined_append ended ls ms) ∙ append_assoc (flat_map ended ls) (flat_map ended ms) rest
+written_append ls ms rest = ap (λ t. t ++ rest) (flat_map-append ended ls ms) ∙ append_assoc (flat_map ended ls) (flat_map ended ms) rest
 
 chars_before : (ls : List EndedLine) (ys : List ℕ) → text_chars (written ls ys) ≡ map trimmed (cut_lines ls).0 ++ text_chars ys
 chars_before ls ys = ap (map trimmed) ((cut_lines ls).1 ys) ∙ map-append trimmed (cut_lines ls).0 (stretches ys)

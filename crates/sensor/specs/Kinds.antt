@@ -1,10 +1,11 @@
 -- The kinds of sensor. Assumes nothing.
-use Rattle.std.specs.Prelude.{◌≡◌, ℕ, false, cond, List, [], ◌∷◌, nat_eq, refl}
+use Rattle.std.specs.Prelude.{◌≡◌, ℕ, ◌<◌, false, cond, List, [], ◌∷◌, nat_eq, refl}
 use Rattle.sensor.specs.declared.enable.Enable.{Enable}
 use Rattle.sensor.specs.declared.enable.Enable.TheVariants.{Asleep, Starting, Ready, Strange}
 use Rattle.sensor.specs.declared.enable.Order.{Order}
 use Rattle.sensor.specs.declared.enable.Order.TheVariants.{Wake, Sleep, Other}
-use Rattle.sensor.specs.Patterns.{Bit, o, l, x, fits, filled_from, least}
+use Rattle.sensor.specs.declared.enable.Patterns.{Patterns}
+use Rattle.sensor.specs.Patterns.{Bit, o, l, x, fits, filled_from, least, IsPattern}
 
 -- what a value says by the patterns of ENABLE
 abbrev pub seen_by : List Bit → List Bit → List Bit → ℕ → Enable
@@ -82,3 +83,13 @@ wake_byte k last = filled_from k.wake last
 
 abbrev pub sleep_byte : KindIs → ℕ → ℕ
 sleep_byte k last = filled_from k.sleep last
+
+-- the patterns of the code are those of the kind, and what is written to ENABLE is taken for what it is
+pub record ArePatternsOf (k : KindIs) (p : Patterns) : Type 0 where
+  pub asleep : IsPattern k.asleep p.asleep
+  pub starting : IsPattern k.starting p.starting
+  pub ready : IsPattern k.ready p.ready
+  pub wake : IsPattern k.wake p.wake
+  pub sleep : IsPattern k.sleep p.sleep
+  pub wakes : (v : ℕ) → v < 256 → ordered k (wake_byte k v) ≡ Wake
+  pub sleeps : (v : ℕ) → v < 256 → ordered k (sleep_byte k v) ≡ Sleep

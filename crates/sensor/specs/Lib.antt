@@ -1,8 +1,10 @@
 pub mod Patterns
 pub mod Kinds
+pub mod Table
 pub mod Exchanges
 pub mod Sensors
 pub mod Meaning
 pub mod Losing
 pub mod Machines
 pub mod Runs
+pub mod Scripts

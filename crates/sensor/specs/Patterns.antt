@@ -1,5 +1,6 @@
 -- Bit patterns, as the maker's sheet writes them. Assumes nothing.
-use Rattle.std.specs.Prelude.{ℕ, ◌+◌, ◌*◌, ◌/◌, ◌%◌, ◌^◌, Bool, true, ◌&&◌, List, [], ◌∷◌, length, ◌==◌}
+use Rattle.std.specs.Prelude.{◌≡◌, ℕ, ◌+◌, ◌*◌, ◌/◌, ◌%◌, ◌^◌, ◌<◌, Bool, true, ◌&&◌, List, [], ◌∷◌, length, ◌==◌, bit_and, bit_or}
+use Rattle.sensor.specs.declared.pattern.Pattern.{Pattern}
 
 -- a bit of a pattern: 0, 1, or either
 pub data Bit : Type 0 where
@@ -32,3 +33,9 @@ filled_from (b ∷ bs) value = chosen b ((value / 2 ^ length bs) % 2) * 2 ^ leng
 -- the value with the bits of a pattern, and 0 where the pattern has either
 abbrev pub least : List Bit → ℕ
 least pattern = filled_from pattern 0
+
+-- a pattern of the code says the same of each byte
+pub record IsPattern (pattern : List Bit) (p : Pattern) : Type 0 where
+  pub tests : (v : ℕ) → v < 256 → fits pattern v ≡ (bit_and v p.fixed == p.bits)
+  pub fills : (v : ℕ) → v < 256 → filled_from pattern v ≡ bit_or p.bits (bit_and v p.free)
+  pub begins : least pattern ≡ p.bits

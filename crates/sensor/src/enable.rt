@@ -1,4 +1,6 @@
 // What register ENABLE says and is told.
+use super::pattern::Pattern;
+
 #[derive(Clone, Copy, PartialEq, Eq, Debug)]
 pub enum Enable {
     Asleep,
@@ -16,4 +18,16 @@ pub enum Order {
     Sleep,
     // Nothing.
     Other,
+}
+
+// A kind's patterns of ENABLE.
+#[derive(Clone, Copy, PartialEq, Eq, Debug)]
+pub struct Patterns {
+    // What it shows.
+    pub asleep: Pattern,
+    pub starting: Pattern,
+    pub ready: Pattern,
+    // What is written to it.
+    pub wake: Pattern,
+    pub sleep: Pattern,
 }

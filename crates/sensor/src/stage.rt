@@ -15,7 +15,7 @@ pub enum Stage {
 }
 
 impl Stage {
-    // What ENABLE says at this stage.
+    // What ENABLE says at this stage. No `From`: a stage does not become what one register says of it.
     pub fn enable(self) -> Enable
         ensures { result ≡ enable_at self }
     {

@@ -1,6 +1,6 @@
 pub mod States
 pub mod Scripts
-pub mod Cores
+pub mod Simulators
 pub mod Frames
 pub mod Reads
 pub mod Steps
@@ -8,3 +8,4 @@ pub mod Flipping
 pub mod Lawful
 pub mod Simulated
 pub mod Laws
+pub mod Parts

@@ -1,6 +1,7 @@
 -- A simulated sensor's state. Assumes nothing.
-use Rattle.std.specs.Prelude.{ℕ, ◌+◌, cond, List, length, nat_lt}
+use Rattle.std.specs.Prelude.{ℕ, List}
 use Rattle.sensor.specs.Sensors.{Sensor, switched_on}
+use Rattle.sensor.specs.Scripts.{past}
 
 pub record SimIs : Type 0 where
   pub sensor : Sensor
@@ -25,4 +26,4 @@ with_busy busy left s = record { sensor = s.sensor; busy = busy; left = left; sc
 
 -- one byte of the script is used up; after its end none
 abbrev pub advanced : SimIs → SimIs
-advanced s = record { sensor = s.sensor; busy = s.busy; left = s.left; script = s.script; at = cond (nat_lt s.at (length s.script)) (s.at + 1) s.at }
+advanced s = record { sensor = s.sensor; busy = s.busy; left = s.left; script = s.script; at = past s.script s.at }

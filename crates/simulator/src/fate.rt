@@ -4,8 +4,8 @@ ghost use Rattle.simulator.specs.Scripts.{fate_of, way_at, place_of};
 
 use sensor::BOOTLOADER;
 
-// What a byte of the script means.
-#[derive(Clone, Copy)]
+// What the script says of an exchange.
+#[derive(Clone, Copy, PartialEq, Eq, Debug)]
 pub enum Fate {
     Clean,
     // Nothing arrives; missed.
@@ -21,7 +21,7 @@ pub enum Fate {
 }
 
 // Where an exchange goes.
-#[derive(Clone, Copy)]
+#[derive(Clone, Copy, PartialEq, Eq, Debug)]
 pub enum Place {
     // A frame to the bootloader, which takes it.
     CountingFrame,
@@ -31,7 +31,7 @@ pub enum Place {
 }
 
 // How an exchange fares on its way.
-#[derive(Clone, Copy)]
+#[derive(Clone, Copy, PartialEq, Eq, Debug)]
 pub enum Way {
     Whole,
     Lost,
@@ -39,11 +39,11 @@ pub enum Way {
     Flipped,
 }
 
-impl Fate {
-    // What a byte of the script means.
-    pub fn of_byte(byte: u8) -> Fate
-        ensures { result ≡ fate_of byte }
-    {
+// What a byte of the script means.
+impl From<u8> for Fate {
+    ghost from_gives = { λ byte fate. fate ≡ fate_of byte };
+
+    fn from(byte: u8) -> Fate {
         match byte {
             1 => Fate::Lost,
             2 => Fate::Unheard,
@@ -53,7 +53,9 @@ impl Fate {
             _ => Fate::Clean,
         }
     }
+}
 
+impl Fate {
     // How an exchange of this fate fares there.
     pub fn way(self, place: Place) -> Way
         ensures { result ≡ way_at self place }

@@ -4,9 +4,9 @@ ghost use Rattle.hexline.specs.Faults.{number_of, line_in, place_in};
 
 use super::fault::TableFault;
 use bootloader::{Reply, read_reply};
-use hexline::{Line, TextFault, read_line};
+use hexline::{Line, Spot, TextFault, read_line};
 use ihex::{DataFrames, Patch, check_text};
-use listings::{Output, answer};
+use listings::{ProgramFault, answer};
 use std::alloc::{AllocError, Global};
 
 // What a call answers in words, and what comes out besides.
@@ -23,14 +23,11 @@ pub fn lent(heap: Global, room: usize) -> Result<Vec<u8>, AllocError>
     vec![in heap; 0xA5; room]
 }
 
-// A refusal in words.
-fn fault_words(heap: Global, fault: &TextFault) -> Result<String, AllocError>
-    ensures { IfOk result (λ s. string_bytes s ≡ codes "fault " ++ (decimal (number_of fault.now) ++ (codes " " ++ (decimal (line_in fault.now) ++ (codes " " ++ decimal (place_in fault.now)))))) }
+// A refusal in words, as the listing prints it.
+fn fault_words(heap: Global, fault: TextFault) -> Result<String, AllocError>
+    ensures { IfOk result (λ s. string_bytes s ≡ codes "fault " ++ (decimal (number_of fault) ++ (codes " " ++ (decimal (line_in fault) ++ (codes " " ++ decimal (place_in fault)))))) }
 {
-    let number = fault.number();
-    let line = fault.line();
-    let place = fault.place();
-    format!(in heap; "fault {number} {line} {place}")
+    ProgramFault::Text(fault).to_string(heap)
 }
 
 // A line in words.
@@ -39,22 +36,22 @@ fn line_words(heap: Global, line: &Line<'_>) -> Result<String, AllocError> {
     match line {
         Line::Data {
             address,
-            line,
-            place,
+            at: Spot { line, place },
             ..
         } => format!(in heap; "data {address} [{digits}] line {line} place {place}"),
-        Line::End { line, place, .. } => format!(in heap;
-            "end [{digits}] line {line} place {place}"
-        ),
+        Line::End {
+            at: Spot { line, place },
+            ..
+        } => format!(in heap; "end [{digits}] line {line} place {place}"),
         Line::Base {
             upper,
-            line,
-            place,
+            at: Spot { line, place },
             ..
         } => format!(in heap; "base {upper} [{digits}] line {line} place {place}"),
-        Line::Start { line, place, .. } => format!(in heap;
-            "start [{digits}] line {line} place {place}"
-        ),
+        Line::Start {
+            at: Spot { line, place },
+            ..
+        } => format!(in heap; "start [{digits}] line {line} place {place}"),
     }
 }
 
@@ -63,7 +60,7 @@ pub fn line_answer(heap: Global, room: usize, chars: &[u8]) -> Result<Answer, Ta
     let mut row = lent(heap, room)?;
     let words = match read_line(chars, row.as_mut_slice()) {
         Ok(line) => line_words(heap, &line)?,
-        Err(fault) => fault_words(heap, &fault)?,
+        Err(fault) => fault_words(heap, fault)?,
     };
     Ok(Answer {
         words: words.into_bytes(),
@@ -75,7 +72,7 @@ pub fn line_answer(heap: Global, room: usize, chars: &[u8]) -> Result<Answer, Ta
 fn text_words(heap: Global, read: Result<(), TextFault>) -> Result<String, AllocError> {
     match read {
         Ok(()) => String::from_str(heap, "accepted"),
-        Err(fault) => fault_words(heap, &fault),
+        Err(fault) => fault_words(heap, fault),
     }
 }
 
@@ -96,7 +93,7 @@ pub fn patch_answer(heap: Global, room: usize, text: &[u8]) -> Result<Answer, Ta
     let read = patch.read(text, row.as_mut_slice());
     let mut words = text_words(heap, read)?;
     let count = patch.frame_count();
-    words.push_str(format!(in heap; ", {count} frames:")?.as_str())?;
+    write!(words, ", {count} frames:")?;
     let after = push_frames(heap, &mut words, patch.data_frames())?;
     Ok(Answer {
         words: words.into_bytes(),
@@ -108,16 +105,16 @@ pub fn patch_answer(heap: Global, room: usize, text: &[u8]) -> Result<Answer, Ta
 fn push_frames(
     heap: Global,
     words: &mut String,
-    mut frames: DataFrames<'_>,
+    frames: DataFrames<'_>,
 ) -> Result<Vec<u8>, TableFault> {
     let mut bytes = Vec::new(heap);
-    while let Some(frame) = frames.next() {
+    for frame in frames {
         let mark = if frame.number > 0 { ";" } else { "" };
         let number = frame.number;
         let start = frame.start;
         let len = frame.data().len();
         let line = frame.line;
-        words.push_str(format!(in heap; "{mark} {number} {start} {len} {line}")?.as_str())?;
+        write!(words, "{mark} {number} {start} {len} {line}")?;
         bytes.extend_from_slice(frame.data())?;
     }
     Ok(bytes)
@@ -139,8 +136,10 @@ pub fn reply_answer(heap: Global, bytes: &[u8]) -> Result<Answer, TableFault> {
 
 // The whole output for a text, after the exit status.
 pub fn listing_answer(heap: Global, text: &[u8]) -> Result<Answer, TableFault> {
-    let Output { bytes, listed } = answer(heap, text)?;
-    let status = if listed { "status 0\n" } else { "status 1\n" };
+    let (status, bytes) = match answer(heap, text)? {
+        Ok(strings) => ("status 0\n", strings),
+        Err(line) => ("status 1\n", line),
+    };
     let mut words = String::from_str(heap, status)?.into_bytes();
     words.extend_from_slice(bytes.as_slice())?;
     Ok(Answer {

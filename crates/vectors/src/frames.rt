@@ -4,8 +4,8 @@ ghost use Rattle.bootloader.specs.Faults.{number_of};
 
 use super::answers::{Answer, lent};
 use super::fault::TableFault;
-use super::notation::paired;
 use bootloader::{Command, FrameFault, decode};
+use playing::paired;
 use std::alloc::{AllocError, Global};
 use std::str::from_utf8;
 
@@ -37,19 +37,33 @@ fn fault_words(heap: Global, fault: FrameFault) -> Result<String, AllocError>
     format!(in heap; "fault {number}")
 }
 
-// A command's frame: its length, and the buffer afterwards.
-pub fn encode_answer(heap: Global, room: usize, input: &[u8]) -> Result<Answer, TableFault> {
+// What a command writes into memory that is lent, by a way of writing; and that memory afterwards.
+fn written<F: FnOnce(&Command<'_>, &mut [u8]) -> Result<usize, FrameFault>>(
+    heap: Global,
+    room: usize,
+    input: &[u8],
+    write: F,
+) -> Result<(Result<usize, FrameFault>, Vec<u8>), TableFault>
+    requires { F.IsAlwaysCallable write }
+{
     let (name, digits) = command_parts(input)?;
     let bytes = paired(heap, digits.as_bytes())?;
     let command = command_of(name, bytes.as_slice())?;
     let mut buf = lent(heap, room)?;
-    let words = match command.encode(buf.as_mut_slice()) {
+    let len = write(&command, buf.as_mut_slice());
+    Ok((len, buf))
+}
+
+// A command's frame: its length, and the buffer afterwards.
+pub fn encode_answer(heap: Global, room: usize, input: &[u8]) -> Result<Answer, TableFault> {
+    let (len, after) = written(heap, room, input, |command, buf| command.encode(buf))?;
+    let words = match len {
         Ok(len) => format!(in heap; "{len} bytes")?,
         Err(fault) => fault_words(heap, fault)?,
     };
     Ok(Answer {
         words: words.into_bytes(),
-        after: buf,
+        after,
     })
 }
 
@@ -75,11 +89,8 @@ pub fn decode_answer(heap: Global, frame: &[u8]) -> Result<Answer, TableFault> {
 
 // A command's string, and the buffer behind it.
 pub fn string_answer(heap: Global, room: usize, input: &[u8]) -> Result<Answer, TableFault> {
-    let (name, digits) = command_parts(input)?;
-    let bytes = paired(heap, digits.as_bytes())?;
-    let command = command_of(name, bytes.as_slice())?;
-    let mut buf = lent(heap, room)?;
-    match command.write_string(buf.as_mut_slice()) {
+    let (len, buf) = written(heap, room, input, |command, buf| command.write_string(buf))?;
+    match len {
         Ok(len) => {
             let (string, rest) = buf.as_slice().split_at(len.min(buf.len()));
             Ok(Answer {

@@ -9,10 +9,10 @@ mod notation;
 mod table;
 mod tally;
 
-use anyhow::anyhow;
-use cases::{Outcome, check_case};
+use anyhow::{bail, ensure};
+use cases::check_case;
 use std::io;
-use table::{GROUPS, read_case};
+use table::{Case, Group};
 use tally::Tally;
 
 fn main(rt: HostRuntime) -> anyhow::Result<()> {
@@ -24,14 +24,12 @@ fn main(rt: HostRuntime) -> anyhow::Result<()> {
 fn run(rt: &HostRuntime, table: &str) -> anyhow::Result<()> {
     check_lines(rt, table)?;
     let mut total = Tally::new();
-    for group in GROUPS {
+    for group in Group::ALL {
         let tally = run_group(rt, table, group)?;
         println!(rt; "{group} {tally}")?;
         total.add(&tally);
     }
-    if !total.all_passed() {
-        return Err(anyhow!("some vectors fail"));
-    }
+    ensure!(total.all_passed(), "some vectors fail");
     let seen = total.seen();
     println!(rt; "all {seen} vectors pass")?;
     Ok(())
@@ -40,36 +38,35 @@ fn run(rt: &HostRuntime, table: &str) -> anyhow::Result<()> {
 // Every line of the table must be a case.
 fn check_lines(rt: &HostRuntime, table: &str) -> anyhow::Result<()> {
     for (place, line) in table.lines().enumerate() {
-        if let Err(fault) = read_case(line) {
+        if let Err(fault) = Case::try_from(line) {
             let number = place.saturating_add(1);
             println!(rt; "FAILED line {number} of the table: {fault}")?;
-            return Err(anyhow!("the table has a line that is no case"));
+            bail!("the table has a line that is no case");
         }
     }
     Ok(())
 }
 
 // The cases of one group.
-fn run_group(rt: &HostRuntime, table: &str, group: &str) -> anyhow::Result<Tally> {
+fn run_group(rt: &HostRuntime, table: &str, group: Group) -> anyhow::Result<Tally> {
     let mut tally = Tally::new();
     for line in table.lines() {
-        let Ok(case) = read_case(line) else {
+        let Ok(case) = Case::try_from(line) else {
             continue;
         };
-        if case.group != group {
-            continue;
-        }
-        match check_case(rt.alloc(), &case) {
-            Ok(Outcome::Passed) => tally.note(true),
-            Ok(Outcome::Failed(words)) => {
-                rt.println(words)?;
-                tally.note(false);
-            }
-            Err(fault) => {
-                println!(rt; "FAILED {line}: {fault}")?;
-                tally.note(false);
-            }
+        if case.group == group {
+            tally.note(run_case(rt, line, &case)?);
         }
     }
     Ok(tally)
+}
+
+// Whether a case passes; if not, what is wrong is printed.
+fn run_case(rt: &HostRuntime, line: &str, case: &Case<'_>) -> anyhow::Result<bool> {
+    match check_case(rt.alloc(), case) {
+        Ok(None) => return Ok(true),
+        Ok(Some(words)) => rt.println(words)?,
+        Err(fault) => println!(rt; "FAILED {line}: {fault}")?,
+    }
+    Ok(false)
 }

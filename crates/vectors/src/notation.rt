@@ -1,15 +1,9 @@
 // The bytes that a field stands for: `\n`, `\r`, `\s`, `\\` and `\xHH` are one byte each, `\*N{..}` repeats what is in the braces.
-ghost use Rattle.std.specs.Prelude.{◌<◌, ◌≤◌, length, IfOk};
+ghost use Rattle.std.specs.Prelude.{◌≤◌, ◌<◌, length, IfOk};
 
 use super::fault::TableFault;
+use playing::pair;
 use std::alloc::Global;
-
-// A byte, and what follows it in the field.
-#[derive(Clone, Copy)]
-struct Step<'t> {
-    byte: u8,
-    rest: &'t [u8],
-}
 
 // What is in the braces, how often, and what follows them in the field.
 #[derive(Clone, Copy)]
@@ -19,92 +13,63 @@ struct Repeat<'t> {
     rest: &'t [u8],
 }
 
-// The value of a digit of base 16.
-fn digit(c: u8) -> Result<u8, TableFault>
-    ensures { IfOk result (λ d. d < 16) }
-{
-    match c {
-        b'0'..=b'9' => Ok(c - b'0'),
-        b'A'..=b'F' => Ok(c - b'A' + 10),
-        _ => Err(TableFault::NoPairs),
-    }
-}
-
-// The byte of two digits.
-fn pair(high: u8, low: u8) -> Result<u8, TableFault> {
-    Ok(digit(high)? * 16 + digit(low)?)
-}
-
-// The first byte that a field stands for.
-fn first_byte(first: u8, tail: &[u8]) -> Result<Step<'_>, TableFault>
-    ensures { IfOk result (λ s. length s.rest.now ≤ length tail.now) }
+// The first byte that a field stands for, and what follows it.
+fn first_byte(first: u8, tail: &[u8]) -> Result<(u8, &[u8]), TableFault>
+    ensures { IfOk result (λ s. length s.1.now ≤ length tail.now) }
 {
     if first != b'\\' {
-        return Ok(Step {
-            byte: first,
-            rest: tail,
-        });
+        return Ok((first, tail));
     }
     match tail {
-        [b'n', rest @ ..] => Ok(Step { byte: b'\n', rest }),
-        [b'r', rest @ ..] => Ok(Step { byte: b'\r', rest }),
-        [b's', rest @ ..] => Ok(Step { byte: b' ', rest }),
-        [b'\\', rest @ ..] => Ok(Step { byte: b'\\', rest }),
-        [b'x', high, low, rest @ ..] => Ok(Step {
-            byte: pair(*high, *low)?,
-            rest,
-        }),
+        [b'n', rest @ ..] => Ok((b'\n', rest)),
+        [b'r', rest @ ..] => Ok((b'\r', rest)),
+        [b's', rest @ ..] => Ok((b' ', rest)),
+        [b'\\', rest @ ..] => Ok((b'\\', rest)),
+        [b'x', high, low, rest @ ..] => Ok((pair(&[*high, *low])?, rest)),
         _ => Err(TableFault::NoEscape),
     }
 }
 
-// Bytes with no repetition among them.
+// Bytes with no repetition among them. An escape says how many characters it has, so what is left comes from the step.
 fn push_plain(out: &mut Vec<u8>, part: &[u8]) -> Result<(), TableFault> {
     let mut left = part;
     while let [first, tail @ ..] = left {
-        let Step { byte, rest } = first_byte(*first, tail)?;
+        let (byte, rest) = first_byte(*first, tail)?;
         out.push(byte)?;
         left = rest;
     }
     Ok(())
 }
 
-// The decimal number at the front, and what follows it.
-fn number(part: &[u8]) -> (usize, &[u8])
-    ensures { length result.1.now ≤ length part.now }
-{
-    let mut value = 0usize;
-    let mut left = part;
-    while let [first, tail @ ..] = left {
-        if !first.is_ascii_digit() {
-            break;
-        }
-        value = value
+// The number that decimal digits stand for; it stops at the largest.
+fn number(digits: &[u8]) -> usize {
+    digits.iter().fold(0usize, |value, digit| {
+        value
             .saturating_mul(10)
-            .saturating_add((*first - b'0') as usize);
-        left = tail;
-    }
-    (value, left)
+            .saturating_add(digit.saturating_sub(b'0') as usize)
+    })
 }
 
 // A repetition, after its `\*`.
 fn first_repeat(part: &[u8]) -> Result<Repeat<'_>, TableFault>
     ensures { IfOk result (λ s. length s.rest.now ≤ length part.now) }
 {
-    let (times, left) = number(part);
-    let [b'{', inside @ ..] = left else {
+    let end = part
+        .iter()
+        .position(|c| !c.is_ascii_digit())
+        .ok_or(TableFault::NoEscape)?;
+    let [b'{', inside @ ..] = &part[end..] else {
         return Err(TableFault::NoEscape);
     };
-    for i in 0..inside.len() {
-        if inside[i] == b'}' {
-            return Ok(Repeat {
-                times,
-                inner: &inside[0..i],
-                rest: &inside[i + 1..],
-            });
-        }
-    }
-    Err(TableFault::NoEscape)
+    let close = inside
+        .iter()
+        .position(|c| *c == b'}')
+        .ok_or(TableFault::NoEscape)?;
+    Ok(Repeat {
+        times: number(&part[..end]),
+        inner: &inside[..close],
+        rest: &inside[close + 1..],
+    })
 }
 
 // All that a field stands for.
@@ -119,25 +84,8 @@ pub fn expanded(heap: Global, field: &str) -> Result<Vec<u8>, TableFault> {
             }
             left = rest;
         } else {
-            let Step { byte, rest } = first_byte(*first, tail)?;
+            let (byte, rest) = first_byte(*first, tail)?;
             out.push(byte)?;
-            left = rest;
-        }
-    }
-    Ok(out)
-}
-
-// The bytes of digit pairs, which may have spaces between them.
-pub fn paired(heap: Global, digits: &[u8]) -> Result<Vec<u8>, TableFault> {
-    let mut out = Vec::new(heap);
-    let mut left = digits;
-    while let [first, tail @ ..] = left {
-        left = tail;
-        if *first != b' ' {
-            let [low, rest @ ..] = tail else {
-                return Err(TableFault::NoPairs);
-            };
-            out.push(pair(*first, *low)?)?;
             left = rest;
         }
     }

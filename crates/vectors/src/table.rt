@@ -1,15 +1,70 @@
 // The table's lines.
 use super::fault::TableFault;
+use std::fmt;
+use std::str::FromStr;
 
-// The groups, in the order in which they are run.
-pub const GROUPS: [&str; 8] = [
-    "lines", "texts", "patches", "encode", "decode", "replies", "strings", "listings",
-];
+// What a case puts to the test.
+#[derive(Clone, Copy, Debug, PartialEq, Eq)]
+pub enum Group {
+    Lines,
+    Texts,
+    Patches,
+    Encode,
+    Decode,
+    Replies,
+    Strings,
+    Listings,
+}
+
+impl Group {
+    // All of them, in the order in which they are run.
+    pub const ALL: [Group; 8] = [
+        Group::Lines,
+        Group::Texts,
+        Group::Patches,
+        Group::Encode,
+        Group::Decode,
+        Group::Replies,
+        Group::Strings,
+        Group::Listings,
+    ];
+
+    // Its name in the table.
+    fn name(self) -> &'static str {
+        match self {
+            Group::Lines => "lines",
+            Group::Texts => "texts",
+            Group::Patches => "patches",
+            Group::Encode => "encode",
+            Group::Decode => "decode",
+            Group::Replies => "replies",
+            Group::Strings => "strings",
+            Group::Listings => "listings",
+        }
+    }
+}
+
+impl fmt::Display for Group {
+    fn fmt<W: fmt::Write>(&self, f: &mut fmt::Formatter<W>) -> fmt::Result {
+        f.write_str(self.name())
+    }
+}
+
+impl FromStr for Group {
+    type Err = TableFault;
+
+    fn from_str(name: &str) -> Result<Group, TableFault> {
+        Group::ALL
+            .into_iter()
+            .find(|group| group.name() == name)
+            .ok_or(TableFault::NoCase)
+    }
+}
 
 // A case: its fields as they stand in the table.
 #[derive(Clone, Copy)]
 pub struct Case<'t> {
-    pub group: &'t str,
+    pub group: Group,
     pub name: &'t str,
     // how many bytes the row or buffer has that the call is lent
     pub room: usize,
@@ -19,43 +74,29 @@ pub struct Case<'t> {
     pub after: &'t str,
 }
 
-// A field, and what follows it.
-fn field(rest: &str) -> Result<(&str, &str), TableFault> {
-    match rest.split_once('|') {
-        Some((first, others)) => Ok((first.trim(), others)),
-        None => Err(TableFault::NoCase),
-    }
-}
-
 // The case on a line: six fields with bars between them.
-pub fn read_case(line: &str) -> Result<Case<'_>, TableFault> {
-    let (group, rest) = field(line)?;
-    let (name, rest) = field(rest)?;
-    let (room, rest) = field(rest)?;
-    let (input, rest) = field(rest)?;
-    let (answer, rest) = field(rest)?;
-    if !is_group(group) || rest.contains('|') {
-        return Err(TableFault::NoCase);
-    }
-    let Ok(room) = room.parse::<usize>() else {
-        return Err(TableFault::NoRoom);
-    };
-    Ok(Case {
-        group,
-        name,
-        room,
-        input,
-        answer,
-        after: rest.trim(),
-    })
-}
+impl<'t> TryFrom<&'t str> for Case<'t> {
+    type Error = TableFault;
 
-// Whether a group has this name.
-fn is_group(name: &str) -> bool {
-    for group in GROUPS {
-        if group == name {
-            return true;
+    fn try_from(line: &'t str) -> Result<Case<'t>, TableFault> {
+        let mut fields = line.split('|').map(|field| field.trim());
+        let mut field = || fields.next().ok_or(TableFault::NoCase);
+        let (group, name, room) = (field()?, field()?, field()?);
+        let (input, answer, after) = (field()?, field()?, field()?);
+        let group = group.parse::<Group>()?;
+        if fields.next().is_some() {
+            return Err(TableFault::NoCase);
         }
+        let Ok(room) = room.parse::<usize>() else {
+            return Err(TableFault::NoRoom);
+        };
+        Ok(Case {
+            group,
+            name,
+            room,
+            input,
+            answer,
+            after,
+        })
     }
-    false
 }

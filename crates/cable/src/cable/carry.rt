@@ -5,13 +5,7 @@ ghost use Rattle.cable.specs.Cabled.{cabled};
 
 use super::super::entry::Entry;
 use super::Cable;
-use sensor::{Link, can_read, can_write};
-
-// How many entries a cable has.
-const ENTRIES: usize = 64;
-
-// The most bytes of a read, whose answer may be dropped.
-const MOST_READ: usize = 4;
+use sensor::{Link, MOST_READ, Missed, can_read, can_write, take_next};
 
 impl<L: Link> Link for Cable<L> {
     type Model = L::Model;
@@ -26,32 +20,32 @@ impl<L: Link> Link for Cable<L> {
         L::of_its_kind()
     }
 
-    fn write(&mut self, register: u8, bytes: &[u8]) -> bool {
+    fn write(&mut self, register: u8, bytes: &[u8]) -> Result<(), Missed> {
         if !can_write(bytes.len()) {
-            return false;
+            return Err(Missed);
         }
         match self.take_entry() {
             Entry::Clean => self.link.write(register, bytes),
-            Entry::Lost => false,
+            Entry::Lost => Err(Missed),
             Entry::Unheard => {
-                self.link.write(register, bytes);
-                false
+                let _ = self.link.write(register, bytes);
+                Err(Missed)
             }
         }
     }
 
-    fn read(&mut self, register: u8, buf: &mut [u8]) -> bool {
+    fn read(&mut self, register: u8, buf: &mut [u8]) -> Result<(), Missed> {
         let count = buf.len();
         if !can_read(count) {
-            return false;
+            return Err(Missed);
         }
         match self.take_entry() {
             Entry::Clean => self.link.read(register, buf),
-            Entry::Lost => false,
+            Entry::Lost => Err(Missed),
             Entry::Unheard => {
-                let mut unheard = [0u8; MOST_READ];
-                self.link.read(register, &mut unheard[0..count]);
-                false
+                let mut unheard = [0; MOST_READ];
+                let _ = self.link.read(register, &mut unheard[..count]);
+                Err(Missed)
             }
         }
     }
@@ -65,11 +59,6 @@ impl<L: Link> Cable<L> {
         ensures entries { self.new.entries ≡ self.old.entries }
         ensures link { self.new.link ≡ self.old.link }
     {
-        if self.at >= ENTRIES {
-            return Entry::Clean;
-        }
-        let entry = self.entries[self.at];
-        self.at += 1;
-        entry
+        take_next(&self.entries, &mut self.at).unwrap_or(Entry::Clean)
     }
 }

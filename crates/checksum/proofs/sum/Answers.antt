@@ -1,11 +1,11 @@
-use Rattle.std.proofs.Common.{ap, ◌∙◌, arith}
-use Rattle.std.proofs.lemmas.List.{take_all}
-use Rattle.std.proofs.lemmas.List.Sums.{sum_by_more}
-use Rattle.checksum.specs.Sums.{sum256}
+use Rattle.std.proofs.Common.{◌∙◌, rules}
+use borrow.Author.Tests.{tests}
+use Rattle.std.proofs.lemmas.Iterator.{YieldsList-from_slice}
+use Rattle.std.proofs.lemmas.Iterator.Consumers.{fold_from_yields_List}
+use Rattle.checksum.proofs.Wrapping.{wrapped, fold-wrapped}
 use Rattle.checksum.proofs.sum.Goals as goal
 
-pub loop-b-preserved : goal.loop-b-preserved
-loop-b-preserved c = omega (arith, sum_by_more (λ x. x) c.args.bytes.now c.loop-b.b-index 0 (omega arith))
-
 pub returns : goal.returns
-returns c = c.loop-b.invariant ∙ ap sum256 (take_all c.loop-b.b-index c.args.bytes.now (omega arith))
+returns c =
+    fold_from_yields_List _ wrapped 0 _ c.fold.ensures.ran (YieldsList-from_slice c.args.bytes.now cc) (λ a x b q k. search (rules, tests))
+    ∙ fold-wrapped c.args.bytes.now

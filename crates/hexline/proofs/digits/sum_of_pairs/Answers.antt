@@ -1,10 +1,12 @@
-use Rattle.std.proofs.Common.{arith, rules}
-use Rattle.std.proofs.lemmas.List.{take_rest}
-use Rattle.hexline.proofs.Pairs.{sum_more, sum_whole}
+use Rattle.std.proofs.Common.{◌∙◌, refl, rules}
+use borrow.Author.Tests.{tests}
+use Rattle.std.proofs.lemmas.Iterator.Consumers.{fold_from_yields_List, YieldsList-from_first}
+use Rattle.checksum.proofs.Wrapping.{wrapped, fold-wrapped}
+use Rattle.hexline.specs.declared.digits.Pairs.{Pairs}
+use Rattle.hexline.specs.Digits.{pairs}
 use Rattle.hexline.proofs.digits.sum_of_pairs.Goals as goal
 
-pub loop-rest-preserved : goal.loop-rest-preserved
-loop-rest-preserved c = (omega arith, sum_more c.loop-rest.total c.pair-total.result _ c.loop-rest.rest.now _ (search rules) c.pair-total.ensures (take_rest c.loop-rest.rest.now 2) c.loop-rest.invariant.1)
-
 pub returns : goal.returns
-returns c = sum_whole c.loop-rest.total _ c.loop-rest.rest.now (omega arith) (search rules) c.loop-rest.invariant.1
+returns c =
+    fold_from_yields_List _ wrapped 0 _ c.fold.ensures.ran (YieldsList-from_first (λ b. b) (λ (s : Pairs). pairs s.0.now) (pairs c.args.digits.now) refl) (λ a x b q k. search (rules, tests))
+    ∙ fold-wrapped (pairs c.args.digits.now)

@@ -1,11 +1,13 @@
-use Rattle.std.proofs.Common.{◌≡◌, ◌+◌, ◌-◌, ◌≤◌, [], length, drop}
-use Rattle.ihex.specs.Texts.{placed, stretches, lines_of}
+use Rattle.std.proofs.Common.{◌≡◌, ◌≤◌, [], length}
+use Rattle.ihex.specs.Texts.{lines_of}
 use Rattle.ihex.specs.Reads.{lines_kept}
+use Rattle.ihex.specs.Walks.{lines_from, end_of}
 use Rattle.ihex.proofs.Steps.{kept_from}
 use Rattle.ihex.proofs.reads.read_lines.Given as goal
 
-abbrev pub invariant-loop-pos : goal.invariant-loop-pos
-invariant-loop-pos l = (l.pos ≤ length l.text) × (l.seen.line ≤ l.pos) × (kept_from l.seen (placed (l.seen.line + 1) l.pos (stretches (drop l.pos l.text))) ≡ lines_kept [] (lines_of l.text))
-
-abbrev pub decreases-loop-pos : goal.decreases-loop-pos
-decreases-loop-pos l = length l.text - l.pos
+abbrev pub invariant-loop-line : goal.invariant-loop-line
+invariant-loop-line l = record {
+  few : l.seen.at.line ≤ l.line-iterator.at.place;
+  end : end_of l.line-iterator ≡ length l.text;
+  kept : kept_from l.seen (lines_from l.line-iterator) ≡ lines_kept [] (lines_of l.text);
+}

@@ -1,4 +1,4 @@
-use Rattle.std.proofs.Common.{◌≡◌, ◌++◌, length, None, vec_items}
+use Rattle.std.proofs.Common.{◌≡◌, ◌++◌, None, vec_items}
 use Rattle.std.specs.List.{flat_map, AllByRecursion}
 use Rattle.ihex.specs.Frames.{frames_of}
 use Rattle.ihex.specs.Patches.{text_in}
@@ -9,7 +9,7 @@ use Rattle.listings.specs.Outputs.{command_string}
 use Rattle.listings.proofs.lists.push_frames.Given as goal
 
 abbrev pub invariant-loop-frame : goal.invariant-loop-frame
-invariant-loop-frame l = AllByRecursion (FrameBelow 16384) (frames_left l.frames) × (vec_items l.out ++ flat_map command_string (writes l.pointer (frames_left l.frames)) ≡ vec_items l.initial.out ++ flat_map command_string (writes None (frames_of (text_in l.patch))))
-
-abbrev pub decreases-loop-frame : goal.decreases-loop-frame
-decreases-loop-frame l = length (frames_left l.frames)
+invariant-loop-frame l = record {
+  below : AllByRecursion (FrameBelow 16384) (frames_left l.frame-iterator);
+  laid : vec_items l.out ++ flat_map command_string (writes l.pointer (frames_left l.frame-iterator)) ≡ vec_items l.initial.out ++ flat_map command_string (writes None (frames_of (text_in l.patch)));
+}

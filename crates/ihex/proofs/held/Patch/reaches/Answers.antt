@@ -1,15 +1,15 @@
-use Rattle.std.proofs.Common.{false, fold, sym, ap, ◌∙◌, rules}
+use Rattle.std.proofs.Common.{false, length, fold, sym, ap, ◌∙◌, rules}
+use borrow.Author.Tests.{tests}
+use Rattle.std.proofs.lemmas.Iterator.Consumers.{YieldsList-from_shown}
+use Rattle.std.proofs.lemmas.Iterator.Search.{any_from_yields_List}
+use Rattle.checksum.proofs.Passing.{fold-or}
 use Rattle.ihex.specs.Named.{reaches_next}
-use Rattle.ihex.specs.Walks.{said_data, lines_left}
-use Rattle.ihex.proofs.Reaching.{reaches_here, reaches_not}
+use Rattle.ihex.specs.Walks.{DataStep, said_data, lines_left}
 use Rattle.ihex.proofs.held.Patch.reaches.Goals as goal
 
-pub returns-then-data-count : goal.returns-then-data-count
-returns-then-data-count c =
+pub returns : goal.returns
+returns c =
     let window = c.args.window in
-    sym (sym c.loop-data.invariant ∙ ap (fold (reaches_next window) false) c.in-Some.ensures.0 ∙ reaches_here window (said_data c.in-Some.data) (lines_left c.next.new.self) c.if-count-gt0.true c.if-data-count.true)
-
-pub loop-data-preserved : goal.loop-data-preserved
-loop-data-preserved c =
-    let window = c.args.window in
-    sym (ap (fold (reaches_next window) false) c.in-Some.ensures.0 ∙ reaches_not window (said_data c.in-Some.data) (lines_left c.next.new.self) (search rules)) ∙ c.loop-data.invariant
+    any_from_yields_List (reaches_next window false) _ _ c.any.result c.any.ensures.ran (YieldsList-from_shown DataStep said_data lines_left (λ s t h. ap length h.0) (λ s x t h. h.0) c.data_lines.result) (λ x b q k. search (rules, tests))
+    ∙ sym (fold-or (reaches_next window false) false (lines_left c.data_lines.result))
+    ∙ ap (fold (reaches_next window) false) c.data_lines.ensures

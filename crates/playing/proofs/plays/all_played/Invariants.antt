@@ -1,5 +1,0 @@
-use Rattle.std.proofs.Common.{length}
-use Rattle.playing.proofs.plays.all_played.Given as goal
-
-abbrev pub decreases-loop-left : goal.decreases-loop-left
-decreases-loop-left g l = length l.left
