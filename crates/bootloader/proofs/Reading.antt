@@ -49,14 +49,14 @@ frame_well_formed command short = ap is_ok (frame_decodes command short)
 pub encode_fits : (room : ℕ) (command : CommandIs) → length (payload_of command) ≤ 128 → length (payload_of command) + 3 ≤ room → encode_of room command ≡ Ok (frame_of command)
 encode_fits room command short fits = rw (le-leb (length (payload_of command)) 128 short, le-leb (length (payload_of command) + 3) room fits)
 
--- what is written is the command's frame, and its data are few enough
-abbrev Written : CommandIs → List ℕ → Type 0
-Written command frame = (frame ≡ frame_of command) × (length (payload_of command) ≤ 128)
+-- what is written is the command's frame, which fits
+abbrev pub Written : CommandIs → ℕ → List ℕ → Type 0
+Written command room frame = (frame ≡ frame_of command) × (length (payload_of command) ≤ 128) × (length (payload_of command) + 3 ≤ room)
 
-written : (room : ℕ) (command : CommandIs) → IfOk (encode_of room command) (Written command)
+pub written : (room : ℕ) (command : CommandIs) → IfOk (encode_of room command) (Written command room)
 written room command = grind (arith, nat_tests)
 
-read_over : (command : CommandIs) (buf : List ℕ) (x : Result (List ℕ) FrameFault) → IfOk x (Written command) → ReadsBack command (map_ok length x) (laid_over buf x)
+read_over : (command : CommandIs) (buf : List ℕ) (x : Result (List ℕ) FrameFault) → IfOk x (Written command (length buf)) → ReadsBack command (map_ok length x) (laid_over buf x)
 read_over command buf (Ok frame) h =
     ap decode_of (take_at frame (drop (length frame) buf) (length frame) refl ∙ h.0) ∙ frame_decodes command h.1
 read_over command buf (Err fault) h = tt

@@ -47,11 +47,14 @@ fn stray(chars: &[u8]) -> Option<usize>
 }
 
 // A colon, digits only, as many as the count asks for, and the sum 0.
-pub fn check_form(chars: &[u8], at: Spot) -> Result<(), TextFault>
-    requires { at.place < 2 ^ 32 }
-    ensures result { result ≡ decided (form_rules at.line at.place chars.now) tt }
+pub fn check_form(chars: &[u8], line: usize, place: u32) -> Result<(), TextFault>
+    ensures result { result ≡ decided (form_rules line place chars.now) tt }
     ensures long { OnOk result (length chars.now ≡ 11 + 2 * count_on chars.now) }
 {
+    let at = Spot {
+        line,
+        place: place as usize,
+    };
     let [b':', digits @ ..] = chars else {
         return Err(TextFault::NoColon(at));
     };

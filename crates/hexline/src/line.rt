@@ -89,11 +89,11 @@ fn upper(digits: &[u8]) -> u16
 pub fn sort_line<'t>(chars: &'t [u8], line: usize, place: u32) -> Result<Line<'t>, TextFault>
     ensures { said result ≡ line_of line place chars.now }
 {
+    check_form(chars, line, place)?;
     let at = Spot {
         line,
         place: place as usize,
     };
-    check_form(chars, at)?;
     sort_type(chars, at)
 }
 

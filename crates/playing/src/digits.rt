@@ -31,9 +31,11 @@ pub fn pair(digits: &[u8]) -> Result<u8, PlayFault>
 
 // The bytes of digit pairs, which may have spaces between them.
 pub fn paired(heap: Global, digits: &[u8]) -> Result<Vec<u8>, PlayFault> {
-    digits
-        .split(|c| *c == b' ')
-        .flat_map(|word| word.chunks(2))
-        .map(pair)
-        .try_collect(heap)
+    let mut out = Vec::new(heap);
+    let mut left = digits.iter();
+    while let Some(high) = left.find(|c| **c != b' ') {
+        let low = left.next().ok_or(PlayFault::NoPairs)?;
+        out.push(pair(&[*high, *low])?)?;
+    }
+    Ok(out)
 }

@@ -26,8 +26,9 @@ impl<L: Link + Seen> Player<L> {
                 Ok(())
             }
             [b'W', high, low, b':', digits @ ..] => {
+                let register = pair(&[*high, *low])?;
                 let bytes = paired(self.heap, digits)?;
-                self.write(pair(&[*high, *low])?, bytes.as_slice())
+                self.write(register, bytes.as_slice())
             }
             [b'R', high, low, b':', count] => self.read(pair(&[*high, *low])?, digit(*count)?),
             _ => Err(PlayFault::NoPlay),

@@ -1,4 +1,6 @@
 // A case: the kind, what becomes of the exchanges, and the exchanges.
+ghost use Rattle.std.specs.Prelude.{◌<◌, length};
+
 use super::choices::choice_of;
 use super::digits::paired;
 use super::fault::PlayFault;
@@ -128,16 +130,22 @@ fn choices_of(heap: Global, words: &[u8]) -> Result<Vec<Choice>, PlayFault> {
 }
 
 // The first word, and what follows it.
-fn first_word(text: &[u8]) -> (&[u8], &[u8]) {
+fn first_word(text: &[u8]) -> (&[u8], &[u8])
+    ensures { 0 < length text.now → length result.1.now < length text.now }
+{
     match text.iter().position(|c| *c == b' ') {
         Some(end) => (&text[..end], &text[end + 1..]),
         None => (text, b""),
     }
 }
 
-// Plays a case on the kind of this name, over RAM of so many bytes 0xA5.
-fn on_kind<C: Case>(heap: Global, room: usize, kind: &[u8], case: &C) -> Result<Played, PlayFault> {
-    let mut ram = vec![in heap; 0xA5; room]?;
+// Plays a case on the kind of this name, over this RAM.
+fn on_kind<C: Case>(
+    heap: Global,
+    mut ram: Vec<u8>,
+    kind: &[u8],
+    case: &C,
+) -> Result<Played, PlayFault> {
     let words = match kind {
         b"tmf8x0x" => case.on(heap, Tmf8x0x, ram.as_mut_slice())?,
         b"tmf882x" => case.on(heap, Tmf882x, ram.as_mut_slice())?,
@@ -146,23 +154,26 @@ fn on_kind<C: Case>(heap: Global, room: usize, kind: &[u8], case: &C) -> Result<
     Ok(Played { words, ram })
 }
 
-// A case on the adversary: the kind, the choices, and the exchanges.
+// A case on the adversary, over RAM of so many bytes 0xA5, which is asked for before the case is read: the kind, the choices,
+// and the exchanges.
 pub fn play_choices(heap: Global, room: usize, case: &[u8]) -> Result<Played, PlayFault> {
+    let ram = vec![in heap; 0xA5; room]?;
     let (kind, rest) = first_word(case);
     let (choices, exchanges) = first_word(rest);
     let choices = choices_of(heap, choices)?;
-    on_kind(heap, room, kind, &Chosen { choices, exchanges })
+    on_kind(heap, ram, kind, &Chosen { choices, exchanges })
 }
 
-// A case on a simulated sensor: the kind, the script, the cable's entries, and the exchanges.
+// A case on a simulated sensor, over such RAM: the kind, the script, the cable's entries, and the exchanges.
 pub fn play(heap: Global, room: usize, case: &[u8]) -> Result<Played, PlayFault> {
+    let ram = vec![in heap; 0xA5; room]?;
     let (kind, rest) = first_word(case);
     let (script, rest) = first_word(rest);
     let (entries, exchanges) = first_word(rest);
     let script = script_of(heap, script)?;
     on_kind(
         heap,
-        room,
+        ram,
         kind,
         &Scripted {
             script,

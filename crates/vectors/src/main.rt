@@ -51,6 +51,9 @@ fn check_lines(rt: &HostRuntime, table: &str) -> anyhow::Result<()> {
 fn run_group(rt: &HostRuntime, table: &str, group: Group) -> anyhow::Result<Tally> {
     let mut tally = Tally::new();
     for line in table.lines() {
+        if !group.may_have(line) {
+            continue;
+        }
         let Ok(case) = Case::try_from(line) else {
             continue;
         };

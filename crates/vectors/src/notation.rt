@@ -41,24 +41,26 @@ fn push_plain(out: &mut Vec<u8>, part: &[u8]) -> Result<(), TableFault> {
     Ok(())
 }
 
-// The number that decimal digits stand for; it stops at the largest.
-fn number(digits: &[u8]) -> usize {
-    digits.iter().fold(0usize, |value, digit| {
+// The decimal number at the front, which stops at the largest, and what follows it.
+fn number(part: &[u8]) -> (usize, &[u8])
+    ensures { length result.1.now ≤ length part.now }
+{
+    let end = part.iter().position(|c| !c.is_ascii_digit());
+    let (digits, rest) = part.split_at(end.unwrap_or(part.len()));
+    let value = digits.iter().fold(0usize, |value, digit| {
         value
             .saturating_mul(10)
             .saturating_add(digit.saturating_sub(b'0') as usize)
-    })
+    });
+    (value, rest)
 }
 
 // A repetition, after its `\*`.
 fn first_repeat(part: &[u8]) -> Result<Repeat<'_>, TableFault>
     ensures { IfOk result (λ s. length s.rest.now ≤ length part.now) }
 {
-    let end = part
-        .iter()
-        .position(|c| !c.is_ascii_digit())
-        .ok_or(TableFault::NoEscape)?;
-    let [b'{', inside @ ..] = &part[end..] else {
+    let (times, rest) = number(part);
+    let [b'{', inside @ ..] = rest else {
         return Err(TableFault::NoEscape);
     };
     let close = inside
@@ -66,7 +68,7 @@ fn first_repeat(part: &[u8]) -> Result<Repeat<'_>, TableFault>
         .position(|c| *c == b'}')
         .ok_or(TableFault::NoEscape)?;
     Ok(Repeat {
-        times: number(&part[..end]),
+        times,
         inner: &inside[..close],
         rest: &inside[close + 1..],
     })

@@ -42,6 +42,11 @@ impl Group {
             Group::Listings => "listings",
         }
     }
+
+    // Whether a line may be a case of this group: it begins with its name. So no other line has to be taken apart for it.
+    pub fn may_have(self, line: &str) -> bool {
+        line.trim_start().starts_with(self.name())
+    }
 }
 
 impl fmt::Display for Group {
