@@ -154,8 +154,7 @@ fn on_kind<C: Case>(
     Ok(Played { words, ram })
 }
 
-// A case on the adversary, over RAM of so many bytes 0xA5, which is asked for before the case is read: the kind, the choices,
-// and the exchanges.
+// A case on the adversary, over RAM of so many bytes 0xA5: the kind, the choices, and the exchanges. The RAM is asked for first.
 pub fn play_choices(heap: Global, room: usize, case: &[u8]) -> Result<Played, PlayFault> {
     let ram = vec![in heap; 0xA5; room]?;
     let (kind, rest) = first_word(case);
@@ -164,7 +163,8 @@ pub fn play_choices(heap: Global, room: usize, case: &[u8]) -> Result<Played, Pl
     on_kind(heap, ram, kind, &Chosen { choices, exchanges })
 }
 
-// A case on a simulated sensor, over such RAM: the kind, the script, the cable's entries, and the exchanges.
+// A case on a simulated sensor, over RAM of so many bytes 0xA5: the kind, the script, the cable's entries, and the exchanges.
+// The RAM is asked for first.
 pub fn play(heap: Global, room: usize, case: &[u8]) -> Result<Played, PlayFault> {
     let ram = vec![in heap; 0xA5; room]?;
     let (kind, rest) = first_word(case);

@@ -84,12 +84,21 @@ impl<'t> TryFrom<&'t str> for Case<'t> {
     type Error = TableFault;
 
     fn try_from(line: &'t str) -> Result<Case<'t>, TableFault> {
-        let mut fields = line.split('|').map(|field| field.trim());
-        let mut field = || fields.next().ok_or(TableFault::NoCase);
+        // What follows the last field that was taken.
+        let mut left = Some(line);
+        let mut field = || {
+            let text = left.ok_or(TableFault::NoCase)?;
+            let (first, others) = match text.split_once('|') {
+                Some((first, others)) => (first, Some(others)),
+                None => (text, None),
+            };
+            left = others;
+            Ok::<_, TableFault>(first.trim())
+        };
         let (group, name, room) = (field()?, field()?, field()?);
         let (input, answer, after) = (field()?, field()?, field()?);
         let group = group.parse::<Group>()?;
-        if fields.next().is_some() {
+        if left.is_some() {
             return Err(TableFault::NoCase);
         }
         let Ok(room) = room.parse::<usize>() else {
