@@ -44,7 +44,7 @@ impl Group {
     }
 
     // Whether a line may be a case of this group: it begins with its name. So no other line has to be taken apart for it.
-    pub fn may_have(self, line: &str) -> bool {
+    pub(crate) fn may_have(self, line: &str) -> bool {
         line.trim_start().starts_with(self.name())
     }
 }
